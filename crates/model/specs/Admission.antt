@@ -1,0 +1,202 @@
+-- Document 01, "Admission rules": assignments of depths to the addresses of a program, the smallest one, and the sheet.
+-- Assumes nothing.
+use mathlib.Core.Path.{_≡_}
+use mathlib.Core.Bool.{Bool, true, false, cond, not, _&&_}
+use mathlib.Core.List.{List, [], _∷_, _++_}
+use Prim.Native.Nat.{ℕ, zero, suc, _+_, _-_, _*_, _%_, _≤_, _<_}
+use lib.Dec.{T, eqb, ltb, leb}
+use lib.ListN.{length, getD, set, replicate}
+use Rattle.model.specs.Bytes.{Every, number, oneOf}
+use Rattle.model.specs.Instruction.{kept, swapped, wide, size, opOf, shape, shapeOf, rowOf, working, returning, takenFrom, pushedOn, lengthOf}
+use Rattle.model.specs.Step.{offset}
+
+-- the address at which a program starts
+abbrev pub start : ℕ
+start = 0x0100
+
+-- "above 4,096 bytes" a program is not admitted
+abbrev pub admitMost : ℕ
+admitMost = 4096
+
+-- an address is not marked, or is marked with a working depth and a return depth
+pub data Mark : Type 0 where
+  unmarked : Mark
+  marked : ℕ → ℕ → Mark
+
+-- the byte of a program at an address
+unfoldable pub byteAt : List ℕ → ℕ → ℕ
+byteAt program at = getD program (at - start) 0
+
+-- the address is in the program
+abbrev pub Within : List ℕ → ℕ → Type 0
+Within program at = (start ≤ at) × (at < start + length program)
+
+-- "it is none of JMP, JCN, JSR, STR, STA in any mode, nor JSI, nor STZ in 16-bit form"
+unfoldable pub allowed : ℕ → Bool
+allowed byte =
+    not (oneOf (byte % 32) (0x0C ∷ 0x0D ∷ 0x0E ∷ 0x13 ∷ 0x15 ∷ []))
+    && not (eqb byte 0x60)
+    && not (eqb (byte % 64) 0x31)
+
+-- the depth of the stack k after an instruction, from its depth before: "keep or not"
+abbrev pub depthAfter : ℕ → ℕ → ℕ → ℕ
+depthAfter k byte depth = depth - cond (kept byte) 0 (takenFrom k byte) + pushedOn k byte
+
+abbrev pub markAfter : ℕ → ℕ → ℕ → Mark
+markAfter byte w r = marked (depthAfter working byte w) (depthAfter returning byte r)
+
+-- "each address where it may go on (after it; for JMI its target; for JCI both) .. BRK goes nowhere."
+unfoldable pub ways : List ℕ → ℕ → List ℕ
+ways program at =
+    let byte = byteAt program at in
+    let after = at + lengthOf byte in
+    let target = offset after (number (byteAt program (at + 1) ∷ byteAt program (at + 2) ∷ [])) in
+    cond (eqb byte 0x00) []
+    (cond (eqb byte 0x20) (after ∷ target ∷ [])
+    (cond (eqb byte 0x40) (target ∷ [])
+    (after ∷ [])))
+
+-- ---- the rules, for marks of any kind
+
+-- at an address that is marked with w and r
+pub record Rules (program : List ℕ) (marks : ℕ → Mark) (at w r : ℕ) : Type 0 where
+  -- "depths, 0 to 255 each"
+  pub workLow : w ≤ 255
+  pub retLow : r ≤ 255
+  -- "the whole instruction lies in the program"
+  pub placed : start ≤ at
+  pub inside : at + lengthOf (byteAt program at) ≤ start + length program
+  -- "it is none of .."
+  pub fine : T (allowed (byteAt program at))
+  -- "each stack holds the bytes that it takes, keep or not"
+  pub work : takenFrom working (byteAt program at) ≤ w
+  pub ret : takenFrom returning (byteAt program at) ≤ r
+  -- "and no depth after it is above 255"
+  pub workTop : depthAfter working (byteAt program at) w ≤ 255
+  pub retTop : depthAfter returning (byteAt program at) r ≤ 255
+  -- "each address where it may go on .. is in the program and marked with the depths after it"
+  pub on : Every (λ next. Within program next × (marks next ≡ markAfter (byteAt program at) w r)) (ways program at)
+
+-- "An assignment marks some addresses with depths .. such that"
+pub record Assignment (program : List ℕ) (marks : ℕ → Mark) : Type 0 where
+  -- "0100 is marked with 0 and 0"
+  pub first : marks start ≡ marked 0 0
+  -- "at a marked address .."
+  pub rules : (at w r : ℕ) → marks at ≡ marked w r → Rules program marks at w r
+
+-- "an assignment exists"
+abbrev pub Assignable : List ℕ → Type 0
+Assignable program = (marks : ℕ → Mark) × Assignment program marks
+
+-- ---- the same rules as a test, for a list of marks, one for each program byte
+
+-- the mark of an address; the first mark stands for 0100
+unfoldable pub markAt : List Mark → ℕ → Mark
+markAt marks at = cond (ltb at start) unmarked (getD marks (at - start) unmarked)
+
+abbrev pub sameMark : Mark → Mark → Bool
+sameMark unmarked unmarked = true
+sameMark unmarked (marked w r) = false
+sameMark (marked w r) unmarked = false
+sameMark (marked w r) (marked v q) = eqb w v && eqb r q
+
+abbrev pub all : List Bool → Bool
+all [] = true
+all (x ∷ xs) = x && all xs
+
+-- all but where the instruction goes on
+unfoldable pub passes : List ℕ → ℕ → ℕ → ℕ → List Bool
+passes program at w r =
+    let byte = byteAt program at in
+    leb w 255
+    ∷ leb r 255
+    ∷ leb (at + lengthOf byte) (start + length program)
+    ∷ allowed byte
+    ∷ leb (takenFrom working byte) w
+    ∷ leb (takenFrom returning byte) r
+    ∷ leb (depthAfter working byte w) 255
+    ∷ leb (depthAfter returning byte r) 255
+    ∷ []
+
+-- each of the addresses has this mark; so it is in the program
+abbrev pub goesOn : List Mark → Mark → List ℕ → Bool
+goesOn marks x [] = true
+goesOn marks x (at ∷ ats) = sameMark (markAt marks at) x && goesOn marks x ats
+
+unfoldable pub fits : List ℕ → List Mark → ℕ → Mark → Bool
+fits program marks at unmarked = true
+fits program marks at (marked w r) =
+    all (passes program at w r) && goesOn marks (markAfter (byteAt program at) w r) (ways program at)
+
+unfoldable pub fitsFrom : List ℕ → List Mark → ℕ → List Mark → Bool
+fitsFrom program marks at [] = true
+fitsFrom program marks at (x ∷ xs) = fits program marks at x && fitsFrom program marks (at + 1) xs
+
+unfoldable pub assigns : List ℕ → List Mark → Bool
+assigns program marks =
+    eqb (length marks) (length program)
+    && sameMark (markAt marks start) (marked 0 0)
+    && fitsFrom program marks start marks
+
+-- ---- "just the addresses reached from 0100": sweeps over the program, until nothing more can be reached
+
+-- a mark that is there stays
+abbrev pub keepMark : Mark → Mark → Mark
+keepMark unmarked x = x
+keepMark (marked w r) x = marked w r
+
+unfoldable pub markOne : List Mark → ℕ → Mark → List Mark
+markOne marks at x = cond (ltb at start) marks (set marks (at - start) (keepMark (markAt marks at) x))
+
+unfoldable pub markEach : List Mark → Mark → List ℕ → List Mark
+markEach marks x [] = marks
+markEach marks x (at ∷ ats) = markEach (markOne marks at x) x ats
+
+-- from an address with this mark, each address where it may go on
+unfoldable pub follow : List ℕ → List Mark → ℕ → Mark → List Mark
+follow program marks at unmarked = marks
+follow program marks at (marked w r) = markEach marks (markAfter (byteAt program at) w r) (ways program at)
+
+-- the next n addresses, one after the other
+unfoldable pub sweep : List ℕ → ℕ → ℕ → List Mark → List Mark
+sweep program zero at marks = marks
+sweep program (suc n) at marks = sweep program n (at + 1) (follow program marks at (markAt marks at))
+
+-- n times the whole program
+unfoldable pub sweeps : List ℕ → ℕ → List Mark → List Mark
+sweeps program zero marks = marks
+sweeps program (suc n) marks = sweeps program n (sweep program (length program) start marks)
+
+-- as many sweeps as there are addresses reach all of them
+unfoldable pub reached : List ℕ → List Mark
+reached program = sweeps program (length program) (set (replicate (length program) unmarked) 0 (marked 0 0))
+
+-- "Admitted exactly if an assignment exists": what is reached is one, or there is none
+unfoldable pub admitted : List ℕ → Bool
+admitted program = assigns program (reached program)
+
+-- names the definitions: a proof that computes an admission says `unfolding admitting`
+unfoldable pub admitting : Unit {0}
+unfolding byteAt allowed ways markAt passes fits fitsFrom assigns markOne markEach follow sweep sweeps reached admitted rowOf shapeOf shape size opOf wide swapped kept number
+admitting = tt
+
+-- ---- the sheet
+
+-- "A sheet has one 4-byte record per program byte"
+abbrev pub sheetRecord : ℕ
+sheetRecord = 4
+
+-- "mark (0 or 1), working depth, return depth, the program byte. Unmarked records have depths 0."
+abbrev pub recordOf : Mark → ℕ → List ℕ
+recordOf unmarked byte = 0 ∷ 0 ∷ 0 ∷ byte ∷ []
+recordOf (marked w r) byte = 1 ∷ w ∷ r ∷ byte ∷ []
+
+-- "The first record stands for address 0100."
+unfoldable pub sheetOf : List Mark → List ℕ → List ℕ
+sheetOf [] bytes = []
+sheetOf (x ∷ xs) [] = []
+sheetOf (x ∷ xs) (byte ∷ bytes) = recordOf x byte ++ sheetOf xs bytes
+
+-- byte k of the record of an address: 0 its mark, 1 its working depth, 2 its return depth, 3 its program byte
+abbrev pub recordByte : List ℕ → ℕ → ℕ → ℕ
+recordByte sheet at k = getD sheet (sheetRecord * (at - start) + k) 0

@@ -1,0 +1,196 @@
+-- Document 01, "Calls" and "Numbered replies": the six calls, for lent buffers of any length.
+-- Assumes nothing.
+use mathlib.Core.Bool.{Bool, true, false, cond, not, _&&_, _||_}
+use mathlib.Core.List.{List, [], _∷_, _++_}
+use Prim.Native.Nat.{ℕ, zero, suc, _+_, _-_, _*_}
+use lib.Dec.{eqb, ltb, leb}
+use lib.ListN.{length, getD, set, take, drop}
+use Rattle.model.specs.Bytes.{number, readRing, zeros}
+use Rattle.model.specs.Machine.{memorySize, pageSize, stackSize, Stack, stack, State}
+use Rattle.model.specs.Step.{step, breaks}
+use Rattle.model.specs.Run.{Ran, run}
+use Rattle.model.specs.Admission.{start, admitMost, admitted, reached, sheetRecord, sheetOf}
+
+-- ---- numbered replies
+
+-- a number, and when it is given
+abbrev pub Row : Type 0
+Row = ℕ × Bool
+
+-- "Each is given when its row says and no smaller number of the call applies": the first row that says so; 0 if none does
+unfoldable pub refusal : List Row → ℕ
+refusal [] = 0
+refusal (row ∷ rows) = cond (row .1) (row .0) (refusal rows)
+
+abbrev pub hasLength : List ℕ → ℕ → Bool
+hasLength bytes n = eqb (length bytes) n
+
+-- "memory, device page, working stack, return stack of wrong length"
+unfoldable pub bufferRows : State → List Row
+bufferRows s =
+    (1, not (hasLength (s .memory) memorySize))
+    ∷ (2, not (hasLength (s .devices) pageSize))
+    ∷ (3, not (hasLength (s .work .bytes) stackSize))
+    ∷ (4, not (hasLength (s .ret .bytes) stackSize))
+    ∷ []
+
+-- what a call answers
+pub data Answer : Type 0 where
+  Refused : ℕ → Answer
+  Loaded WentOn Broke Spent Ignored Admitted : Answer
+
+-- the number of a refusal, 0 for any other answer
+abbrev pub numberOf : Answer → ℕ
+numberOf (Refused n) = n
+numberOf Loaded = 0
+numberOf WentOn = 0
+numberOf Broke = 0
+numberOf Spent = 0
+numberOf Ignored = 0
+numberOf Admitted = 0
+
+-- the answer of a call on a machine, the steps, the verdict, and the four buffers and the machine record afterwards
+pub record Reply : Type 0 where
+  pub answer : Answer
+  pub steps : ℕ
+  pub verdict : ℕ
+  pub state : State
+
+abbrev pub reply : Answer → ℕ → ℕ → State → Reply
+reply answer steps verdict s = record { answer = answer; steps = steps; verdict = verdict; state = s }
+
+-- "A refusal returns its number, 0 steps, verdict 0 and that record unchanged", and leaves "all as found"; without one
+-- the call does what it does
+unfoldable pub unless : ℕ → State → Reply → Reply
+unless zero s done = done
+unless (suc n) s done = reply (Refused (suc n)) 0 0 s
+
+-- what a run answers
+abbrev pub ranReply : ℕ → Ran → Reply
+ranReply verdict r = reply (cond (r .broke) Broke Spent) (r .steps) verdict (r .state)
+
+-- the state, its counter at this address
+abbrev pub from : ℕ → State → State
+from at s = record { memory = s .memory; devices = s .devices; work = s .work; ret = s .ret; pc = at }
+
+-- ---- load
+
+-- the most bytes that a program may have: 0100 to FFFF
+abbrev pub loadMost : ℕ
+loadMost = 65280
+
+-- "program empty; at load also above 65,280 bytes"
+unfoldable pub loadRows : List ℕ → State → List Row
+loadRows program s = bufferRows s ++ ((5, hasLength program 0 || ltb loadMost (length program)) ∷ [])
+
+-- "memory is zero but for the program at 0100 hexadecimal; device page and stacks are zero; both pointers 0; counter 0100"
+unfoldable pub load : List ℕ → State
+load program =
+    record {
+      memory = zeros start ++ program ++ zeros (loadMost - length program);
+      devices = zeros pageSize;
+      work = stack (zeros stackSize) 0;
+      ret = stack (zeros stackSize) 0;
+      pc = start;
+    }
+
+unfoldable pub loadCall : List ℕ → State → Reply
+loadCall program s = unless (refusal (loadRows program s)) s (reply Loaded 0 0 (load program))
+
+-- ---- step and run
+
+unfoldable pub stepCall : State → Reply
+stepCall s = unless (refusal (bufferRows s)) s (reply (cond (breaks s) Broke WentOn) 1 0 (step s))
+
+unfoldable pub runCall : ℕ → State → Reply
+runCall budget s = unless (refusal (bufferRows s)) s (ranReply 0 (run budget s))
+
+-- ---- event
+
+-- "device above 15"
+unfoldable pub eventRows : ℕ → State → List Row
+eventRows device s = bufferRows s ++ ((6, ltb 15 device) ∷ [])
+
+-- "the vector is the 16-bit number at port 16 x d"
+unfoldable pub vector : ℕ → State → ℕ
+vector device s = number (readRing pageSize (s .devices) (16 * device) 2)
+
+-- "Zero: Ignored, 0 steps, nothing changed. Else run from it; stacks and pointers are retained."
+unfoldable pub eventCall : ℕ → ℕ → State → Reply
+eventCall device budget s =
+    unless (refusal (eventRows device s)) s
+    (cond (eqb (vector device s) 0) (reply Ignored 0 0 s) (ranReply 0 (run budget (from (vector device s) s))))
+
+-- ---- frame
+
+-- "a record of exactly 64 bytes, no header: length L (0 to 62), node number, L data bytes, zeros to the end"
+abbrev pub frameSize : ℕ
+frameSize = 64
+
+abbrev pub frameMost : ℕ
+frameMost = 62
+
+-- where it is written, and the port of the verdict
+abbrev pub framePlace : ℕ
+framePlace = 0x0080
+
+abbrev pub verdictPort : ℕ
+verdictPort = 0xF2
+
+abbrev pub allZero : List ℕ → Bool
+allZero [] = true
+allZero (b ∷ bs) = eqb b 0 && allZero bs
+
+-- not "L above 62, or a byte past the data not 0", in a record whose data may have so many bytes
+unfoldable pub wellFormed : ℕ → List ℕ → Bool
+wellFormed most frame = leb (getD frame 0 0) most && allZero (drop (2 + getD frame 0 0) frame)
+
+-- "frame record not 64 bytes", then 8
+unfoldable pub frameRows : List ℕ → State → List Row
+frameRows frame s =
+    bufferRows s ++ ((7, not (hasLength frame frameSize)) ∷ (8, not (wellFormed frameMost frame)) ∷ [])
+
+-- "Port F2 is set to 0, the record is written to memory 0080 to 00BF, both pointers become 0", and the counter 0100
+unfoldable pub framed : List ℕ → State → State
+framed frame s =
+    record {
+      memory = take framePlace (s .memory) ++ frame ++ drop (framePlace + length frame) (s .memory);
+      devices = set (s .devices) verdictPort 0;
+      work = stack (s .work .bytes) 0;
+      ret = stack (s .ret .bytes) 0;
+      pc = start;
+    }
+
+-- "The verdict is port F2 if Broke and 0 if Spent"
+abbrev pub verdictOf : Ran → ℕ
+verdictOf r = cond (r .broke) (getD (r .state .devices) verdictPort 0) 0
+
+unfoldable pub frameCall : List ℕ → ℕ → State → Reply
+frameCall frame budget s =
+    let r = run budget (framed frame s) in
+    unless (refusal (frameRows frame s)) s (ranReply (verdictOf r) r)
+
+-- ---- admit
+
+-- the answer of an admission, and the sheet afterwards
+pub record Judgement : Type 0 where
+  pub answer : Answer
+  pub sheet : List ℕ
+
+-- "program empty", "above 4,096 bytes", "sheet not four times the program length", "no assignment"
+unfoldable pub admitRows : List ℕ → List ℕ → List Row
+admitRows program sheet =
+    (5, hasLength program 0)
+    ∷ (9, ltb admitMost (length program))
+    ∷ (10, not (hasLength sheet (sheetRecord * length program)))
+    ∷ (11, not (admitted program))
+    ∷ []
+
+-- the sheet is written; 11 leaves "sheet all zero"; 5, 9 and 10 leave the "sheet as found"
+unfoldable pub judged : ℕ → List ℕ → List ℕ → Judgement
+judged zero program sheet = record { answer = Admitted; sheet = sheetOf (reached program) program }
+judged (suc n) program sheet =
+    record { answer = Refused (suc n); sheet = cond (eqb (suc n) 11) (zeros (length sheet)) sheet }
+
+unfoldable pub admitCall : List ℕ → List ℕ → Judgement
+admitCall program sheet = judged (refusal (admitRows program sheet)) program sheet

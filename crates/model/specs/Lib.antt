@@ -1,0 +1,9 @@
+pub mod Admission
+pub mod Bytes
+pub mod Calls
+pub mod Cases
+pub mod Instruction
+pub mod Machine
+pub mod Replies
+pub mod Run
+pub mod Step

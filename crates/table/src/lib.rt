@@ -1,0 +1,24 @@
+// The table of operand and result bytes: the whole of it, and one entry.
+use crate::rows::ROWS;
+
+mod rows;
+
+ghost use mathlib.Core.Path.{_≡_};
+ghost use Prim.Native.Nat.{_<_};
+ghost use lib.ListN.{getD};
+ghost use Rattle.model.specs.Instruction.{rowOf, RowTable};
+
+// The table, by value: a caller that reads many entries takes it once and lends it to `entry`.
+pub fn table() -> [u8; 1280]
+    ensures { λ r. ⌜ RowTable r ⌝ }
+{
+    ROWS
+}
+
+// Column `column` of the row of an instruction byte: 0 and 1 taken, 2 and 3 pushed, 4 length.
+pub fn entry(rows: &[u8; 1280], byte: u8, column: usize) -> u8
+    requires { ⌜ RowTable (now rows) × (column < 5) ⌝ }
+    ensures { λ r. ⌜ r ≡ getD (rowOf byte) column 0 ⌝ }
+{
+    rows[byte as usize * 5 + column]
+}
