@@ -1,14 +1,13 @@
 -- The cases of document 01, by computation. Assumes nothing.
 use mathlib.Core.Path.{_≡_, refl}
-use mathlib.Core.List.{List, [], _∷_}
-use Prim.Native.Nat.{ℕ}
+use mathlib.Core.List.{[], _∷_}
 use mathlib.Core.Bool.{true, false}
 use lib.Dec.{T}
 use Rattle.model.specs.Bytes.{zeros}
 use Rattle.model.specs.Step.{stepping, popWraps, pushWraps, stackWraps}
 use Rattle.model.specs.Run.{run}
 use Rattle.model.specs.Admission.{admitting, sheetOf}
-use Rattle.model.specs.Calls.{refusal, bufferRows, unless, loadRows, load, loadCall, stepCall, runCall, eventRows, vector, eventCall, wellFormed, frameRows, framed, frameCall, admitRows, judged, admitCall, Judgement}
+use Rattle.model.specs.Calls.{refusal, bufferRows, unless, loadRows, load, loadCall, stepCall, runCall, eventRows, vector, eventCall, wellFormed, frameRows, framed, frameCall, admitRows, judged, admitCall}
 use Rattle.model.specs.Calls.Answer.{Admitted}
 use Rattle.model.specs.Cases.{claimed, allClaimed, used, loadAndRun, right, starred, slips, depthsFine, depthsNot, depthsAre, numbered, agree, wrapping, level, wrapsAre}
 

@@ -1,50 +1,51 @@
 -- Which instructions can change memory, device page and counter. Assumes nothing.
-use mathlib.Core.Path.{_≡_, refl, sym, ap, _∙_}
-use mathlib.Core.Bool.{Bool, true, false, cond, Bool·beq, _&&_, _||_}
+use mathlib.Core.Path.{_≡_, refl}
+use mathlib.Core.Bool.{Bool, true, false, Bool·beq, _||_}
 use mathlib.Core.List.{List, [], _∷_}
-use Prim.Native.Nat.{ℕ, zero, suc, _+_, _%_, _<_}
-use native.Mathlib.Omega.{arith}
-use lib.Dec.{T, eqb, ltb}
+use Prim.Native.Nat.{ℕ, _+_, _%_, _<_}
+use lib.Dec.{T, ltb}
+use lib.ListN.{getD}
 use Rattle.model.specs.Bytes.{oneOf, word, writeRing}
 use Rattle.model.specs.Machine.{State}
 use Rattle.model.specs.Instruction.{Op, opOf, wide, size, swapped, kept, Shape, shape, shapeOf, rowBy, rowOf, lengthOf}
-use Rattle.model.specs.Step.{Effect, written, nextOf, applied, exchanged, operated, execute}
+use Rattle.model.specs.Step.{Effect, written, applied, exchanged, operated, execute}
 use Rattle.model.proofs.EveryByte.{at}
 
 -- ---- an instruction that stores nothing leaves memory, one that sends nothing leaves the device page, and one that does
 -- not jump goes on just after itself
 
+pub record Kept (h : Shape) (s t : State) : Type 0 where
+  pub memory : h .stores ≡ 0 → t .memory ≡ s .memory
+  pub devices : h .sends ≡ 0 → t .devices ≡ s .devices
+  pub pc : h .jumps ≡ false → t .pc ≡ (s .pc + (1 + h .inline)) % 65536
+
 none-written : (e : Effect) (n : ℕ) (buffer : List ℕ) → n ≡ 0 → written e n buffer ≡ buffer
 unfolding written word writeRing
 none-written e n buffer h = rw h
 
-pub memory-kept : (byte : ℕ) (s : State) → shapeOf byte .stores ≡ 0 → execute byte s .memory ≡ s .memory
-unfolding execute operated applied shapeOf
-memory-kept byte s h = by (swapped byte)
-  where
-    by : (back : Bool) → exchanged back (applied (opOf byte) (wide byte) (kept byte) (exchanged back s)) .memory ≡ s .memory
-    by false = none-written _ _ _ h
-    by true = none-written _ _ _ h
+apply-kept : (o : Op) (w keep : Bool) (s : State) → Kept (shape (size w) o) s (applied o w keep s)
+unfolding applied
+apply-kept o w keep s = record { memory = none-written _ _ _; devices = none-written _ _ _; pc = λ h. rw h }
 
-pub devices-kept : (byte : ℕ) (s : State) → shapeOf byte .sends ≡ 0 → execute byte s .devices ≡ s .devices
-unfolding execute operated applied shapeOf
-devices-kept byte s h = by (swapped byte)
-  where
-    by : (back : Bool) → exchanged back (applied (opOf byte) (wide byte) (kept byte) (exchanged back s)) .devices ≡ s .devices
-    by false = none-written _ _ _ h
-    by true = none-written _ _ _ h
+operate-kept : (o : Op) (w back keep : Bool) (s : State) → Kept (shape (size w) o) s (operated o w back keep s)
+unfolding operated
+operate-kept o w false keep s = apply-kept o w keep s
+operate-kept o w true keep s =
+    let k = apply-kept o w keep (exchanged true s) in
+    record { memory = k .memory; devices = k .devices; pc = k .pc }
 
-length-is : (back : Bool) (h : Shape) → lib.ListN.getD (rowBy back h) 4 0 ≡ 1 + h .inline
-length-is false h = refl
-length-is true h = refl
+pub execute-kept : (byte : ℕ) (s : State) → Kept (shapeOf byte) s (execute byte s)
+unfolding execute shapeOf
+execute-kept byte s = operate-kept (opOf byte) (wide byte) (swapped byte) (kept byte) s
 
-pub goes-on : (byte : ℕ) (s : State) → shapeOf byte .jumps ≡ false → execute byte s .pc ≡ (s .pc + lengthOf byte) % 65536
-unfolding execute operated applied shapeOf rowOf
-goes-on byte s h = by (swapped byte)
+-- the length of an instruction is the last number of its row
+pub length-is : (byte : ℕ) → lengthOf byte ≡ 1 + shapeOf byte .inline
+unfolding rowOf
+length-is byte = by (swapped byte)
   where
-    by : (back : Bool) → exchanged back (applied (opOf byte) (wide byte) (kept byte) (exchanged back s)) .pc ≡ (s .pc + lib.ListN.getD (rowBy back (shape (size (wide byte)) (opOf byte))) 4 0) % 65536
-    by false = rw h
-    by true = rw h
+    by : (back : Bool) → getD (rowBy back (shapeOf byte)) 4 0 ≡ 1 + shapeOf byte .inline
+    by false = refl
+    by true = refl
 
 -- ---- and these are the instructions that may do so
 

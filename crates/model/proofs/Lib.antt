@@ -2,6 +2,7 @@ pub mod Bytes
 pub mod Cases
 pub mod Changes
 pub mod EveryByte
+pub mod Refusals
 pub mod Runs
 pub mod Stacks
 pub mod Steps

@@ -1,13 +1,13 @@
 -- Laws of runs, and of the states before their steps. Assumes nothing.
 use mathlib.Core.Path.{_≡_, refl, sym, ap, _∙_}
 use mathlib.Core.Bool.{Bool, true, false}
-use mathlib.Core.List.{List, [], _∷_}
-use Prim.Native.Nat.{ℕ, zero, suc, _+_, _≤_, _<_}
+use mathlib.Core.List.{[], _∷_}
+use Prim.Native.Nat.{ℕ, zero, suc, _≤_, _<_}
 use native.Mathlib.Omega.{arith}
 use lib.ListN.{length, getD}
 use Rattle.model.specs.Machine.{State, Sized, InRange}
 use Rattle.model.specs.Step.{step, breaks}
-use Rattle.model.specs.Run.{Ran, run, oneMore, trace}
+use Rattle.model.specs.Run.{run, oneMore, trace}
 use Rattle.model.proofs.Steps.{step-sized, step-range}
 
 -- ---- a run and its trace, by the answer of the first step

@@ -1,13 +1,12 @@
 -- Laws of push, pop and operands. Assumes nothing.
-use mathlib.Core.Path.{_≡_, refl, sym, ap, _∙_}
+use mathlib.Core.Path.{_≡_, refl, sym, _∙_}
 use mathlib.Core.Bool.{Bool, true, false, cond}
 use mathlib.Core.List.{List, [], _∷_, _++_}
-use Prim.Native.Nat.{ℕ, zero, suc, _+_, _-_, _*_, _%_, _≤_, _<_}
-use native.Mathlib.Nat.{mod-lt}
+use Prim.Native.Nat.{ℕ, zero, suc, _+_, _*_, _%_, _≤_, _<_}
 use native.Mathlib.Omega.{arith}
 use lib.Dec.{lit<}
-use lib.ListN.{length, getD, set, take, drop, length-append, length-set}
-use Rattle.model.specs.Bytes.{Bytes, number, readRing, sum}
+use lib.ListN.{length, getD, take, drop, length-append, length-set}
+use Rattle.model.specs.Bytes.{Bytes, readRing, sum}
 use Rattle.model.specs.Machine.{Stack, stack, push, pushed, down, popped, top, lowered, numbers, three, operands}
 use Rattle.model.proofs.Bytes.{nil-bytes, cons-bytes, tail-bytes, append-bytes, set-bytes, take-bytes, drop-bytes, read-mod, read-last, number-fits}
 

@@ -1,16 +1,16 @@
 -- What holds of every step, whatever its instruction byte. Assumes nothing.
-use mathlib.Core.Path.{_≡_, refl, sym, ap, _∙_}
-use mathlib.Core.Bool.{Bool, true, false, cond, _&&_}
-use mathlib.Core.List.{List, [], _∷_, _++_}
-use Prim.Native.Nat.{ℕ, zero, suc, _+_, _*_, _%_, _≤_, _<_}
+use mathlib.Core.Path.{_≡_, refl, _∙_}
+use mathlib.Core.Bool.{Bool, true, false, cond}
+use mathlib.Core.List.{List, [], _∷_}
+use Prim.Native.Nat.{ℕ, _+_, _*_, _%_, _≤_, _<_}
 use native.Mathlib.Omega.{arith}
-use lib.Dec.{T, eqb, ltb, lit<}
+use lib.Dec.{eqb, lit<}
 use lib.ListN.{length, getD, length-append}
-use Rattle.model.specs.Bytes.{Bytes, word, writeRing, sum, oneOf}
-use Rattle.model.specs.Machine.{Stack, State, Sized, InRange, pushed, lowered, taken, operands}
-use Rattle.model.specs.Instruction.{Op, opOf, wide, size, swapped, kept, Shape, shape, shapeOf, rowBy, rowOf, working, returning, takenFrom, pushedOn, lengthOf}
+use Rattle.model.specs.Bytes.{Bytes, word, sum}
+use Rattle.model.specs.Machine.{Stack, State, Sized, InRange, pushed, lowered, operands}
+use Rattle.model.specs.Instruction.{Op, opOf, wide, size, swapped, kept, shape, shapeOf, rowBy, rowOf, working, returning}
 use Rattle.model.specs.Instruction.Op.{BRK, JCI, JMI, JSI, LIT, INC, POP, NIP, SWP, ROT, DUP, OVR, compare, JMP, JCN, JSR, STH, LDZ, STZ, LDR, STR, LDA, STA, DEI, DEO, compute, SFT}
-use Rattle.model.specs.Step.{Effect, effect, effectOn, relative, address, offset, words, mainAfter, otherAfter, written, nextOf, inlineOf, applied, exchanged, operated, execute, fetched, step}
+use Rattle.model.specs.Step.{effect, effectOn, relative, address, offset, words, mainAfter, otherAfter, written, applied, exchanged, operated, execute, fetched, step}
 use Rattle.model.proofs.Bytes.{nil-bytes, append-bytes, length-word, word-bytes, length-ring, ring-bytes}
 use Rattle.model.proofs.Stacks.{lowered-is, pushed-pointer, length-pushed, pushed-bytes, operands-fit}
 
@@ -28,11 +28,19 @@ words-bytes [] vs = nil-bytes
 words-bytes (n ∷ ns) [] = append-bytes (word n 0) (words ns []) (word-bytes n 0) (words-bytes ns [])
 words-bytes (n ∷ ns) (v ∷ vs) = append-bytes (word n v) (words ns vs) (word-bytes n v) (words-bytes ns vs)
 
--- ---- the four buffers keep their lengths
+-- ---- what an operation keeps, and the exchange of the stacks, every byte keeps
 
-exchange-sized : (back : Bool) (s : State) → Sized s → Sized (exchanged back s)
-exchange-sized false s z = z
-exchange-sized true s z = record { memory = z .memory; devices = z .devices; work = z .ret; ret = z .work }
+pub execute-keeps : (P : State → Type 0) → ((s : State) → P s → P (exchanged true s))
+    → ((o : Op) (w keep : Bool) (s : State) → P s → P (applied o w keep s))
+    → (byte : ℕ) (s : State) → P s → P (execute byte s)
+unfolding execute operated
+execute-keeps P swap apply byte s h = by (swapped byte)
+  where
+    by : (back : Bool) → P (exchanged back (applied (opOf byte) (wide byte) (kept byte) (exchanged back s)))
+    by false = apply _ _ _ s h
+    by true = swap _ (apply _ _ _ (exchanged true s) (swap s h))
+
+-- ---- the four buffers keep their lengths
 
 apply-sized : (o : Op) (w keep : Bool) (s : State) → Sized s → Sized (applied o w keep s)
 unfolding applied written mainAfter otherAfter
@@ -45,9 +53,8 @@ apply-sized o w keep s z =
     }
 
 pub execute-sized : (byte : ℕ) (s : State) → Sized s → Sized (execute byte s)
-unfolding execute operated
-execute-sized byte s z =
-    exchange-sized (swapped byte) _ (apply-sized (opOf byte) (wide byte) (kept byte) _ (exchange-sized (swapped byte) s z))
+execute-sized =
+    execute-keeps Sized (λ s z. record { memory = z .memory; devices = z .devices; work = z .ret; ret = z .work }) apply-sized
 
 pub step-sized : (s : State) → Sized s → Sized (step s)
 unfolding step
@@ -116,9 +123,8 @@ target-low DEO memory devices next i w s h g = lit< tt
 target-low (compute o′) memory devices next i w s h g = lit< tt
 target-low SFT memory devices next i w s h g = lit< tt
 
-exchange-range : (back : Bool) (s : State) → InRange s → InRange (exchanged back s)
-exchange-range false s z = z
-exchange-range true s z =
+exchange-range : (s : State) → InRange s → InRange (exchanged true s)
+exchange-range s z =
     record {
       memory = z .memory;
       devices = z .devices;
@@ -143,9 +149,7 @@ apply-range o w keep s z =
     }
 
 pub execute-range : (byte : ℕ) (s : State) → InRange s → InRange (execute byte s)
-unfolding execute operated
-execute-range byte s z =
-    exchange-range (swapped byte) _ (apply-range (opOf byte) (wide byte) (kept byte) _ (exchange-range (swapped byte) s z))
+execute-range = execute-keeps InRange exchange-range apply-range
 
 pub step-range : (s : State) → InRange s → InRange (step s)
 unfolding step

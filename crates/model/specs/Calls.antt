@@ -1,12 +1,12 @@
 -- Document 01, "Calls" and "Numbered replies": the six calls, for lent buffers of any length.
 -- Assumes nothing.
-use mathlib.Core.Bool.{Bool, true, false, cond, not, _&&_, _||_}
+use mathlib.Core.Bool.{Bool, true, cond, not, _&&_, _||_}
 use mathlib.Core.List.{List, [], _∷_, _++_}
 use Prim.Native.Nat.{ℕ, zero, suc, _+_, _-_, _*_}
 use lib.Dec.{eqb, ltb, leb}
 use lib.ListN.{length, getD, set, take, drop}
 use Rattle.model.specs.Bytes.{number, readRing, zeros}
-use Rattle.model.specs.Machine.{memorySize, pageSize, stackSize, Stack, stack, State}
+use Rattle.model.specs.Machine.{memorySize, pageSize, stackSize, stack, State}
 use Rattle.model.specs.Step.{step, breaks}
 use Rattle.model.specs.Run.{Ran, run}
 use Rattle.model.specs.Admission.{start, admitMost, admitted, reached, sheetRecord, sheetOf}

@@ -66,16 +66,20 @@ unfoldable pub allClaimed : List ℕ → Reply → List Claim → Bool
 allClaimed program r [] = true
 allClaimed program r (c ∷ cs) = claimed program r c && allClaimed program r cs
 
--- a machine that was in use: nothing of it is left after a load
-unfoldable pub used : State
-used =
+-- a machine that was in use, with buffers of these lengths
+abbrev pub usedWith : ℕ → ℕ → ℕ → ℕ → State
+usedWith m d w r =
     record {
-      memory = replicate memorySize 0xAA;
-      devices = replicate pageSize 0xAA;
-      work = stack (replicate stackSize 0xAA) 0xAA;
-      ret = stack (replicate stackSize 0xAA) 0xAA;
+      memory = replicate m 0xAA;
+      devices = replicate d 0xAA;
+      work = stack (replicate w 0xAA) 0xAA;
+      ret = stack (replicate r 0xAA) 0xAA;
       pc = 0xAAAA;
     }
+
+-- with the right lengths: nothing of it is left after a load
+unfoldable pub used : State
+used = usedWith memorySize pageSize stackSize stackSize
 
 -- "after load": a load, then a run with the budget
 unfoldable pub loadAndRun : List ℕ → ℕ → Reply
@@ -161,28 +165,17 @@ depthsAre b (w ∷ ws) = Bool·beq (all (passes (0xA5 ∷ []) start w 0)) b && d
 
 -- ---- "Numbered replies": the number that a call answers, 0 if it is not refused, and the one that it should
 
--- the used machine with buffers of other lengths
-abbrev pub cut : ℕ → ℕ → ℕ → ℕ → State
-cut m d w r =
-    record {
-      memory = replicate m 0xAA;
-      devices = replicate d 0xAA;
-      work = stack (replicate w 0xAA) 0xAA;
-      ret = stack (replicate r 0xAA) 0xAA;
-      pc = 0xAAAA;
-    }
-
 -- a frame record: length, node number, bytes, zeros to the end
 abbrev pub frameOf : ℕ → List ℕ → List ℕ
 frameOf l bytes = l ∷ 0x07 ∷ bytes ++ zeros (frameSize - (2 + length bytes))
 
 unfoldable pub numbered : List (ℕ × ℕ)
 numbered =
-    (numberOf (loadCall [] (cut 65535 255 255 255) .answer), 1)
-    ∷ (numberOf (stepCall (cut 65536 257 255 255) .answer), 2)
-    ∷ (numberOf (runCall 0 (cut 65536 256 0 255) .answer), 3)
-    ∷ (numberOf (eventCall 16 0 (cut 65536 256 256 257) .answer), 4)
-    ∷ (numberOf (frameCall [] 0 (cut 65537 256 256 256) .answer), 1)
+    (numberOf (loadCall [] (usedWith 65535 255 255 255) .answer), 1)
+    ∷ (numberOf (stepCall (usedWith 65536 257 255 255) .answer), 2)
+    ∷ (numberOf (runCall 0 (usedWith 65536 256 0 255) .answer), 3)
+    ∷ (numberOf (eventCall 16 0 (usedWith 65536 256 256 257) .answer), 4)
+    ∷ (numberOf (frameCall [] 0 (usedWith 65537 256 256 256) .answer), 1)
     ∷ (numberOf (loadCall [] used .answer), 5)
     ∷ (numberOf (loadCall (zeros 65280) used .answer), 0)
     ∷ (numberOf (loadCall (zeros 65281) used .answer), 5)

@@ -2,8 +2,6 @@
 use borrow.Author.Needs.{needs}
 use Rattle.table.proofs.entry.Statement.{statement}
 use Rattle.table.proofs.entry.Tie as tie
-use Rattle.table.proofs.entry.Reads as reads
-use Rattle.table.proofs.entry.Lts as lts
 
 mul-result : tie.Need-mul-result
 mul-result c = search needs
