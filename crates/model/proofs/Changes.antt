@@ -7,7 +7,7 @@ use lib.Dec.{T, ltb}
 use lib.ListN.{getD}
 use Rattle.model.specs.Bytes.{oneOf, word, writeRing}
 use Rattle.model.specs.Machine.{State}
-use Rattle.model.specs.Instruction.{Op, opOf, wide, size, swapped, kept, Shape, shape, shapeOf, rowBy, rowOf, lengthOf}
+use Rattle.model.specs.Instruction.{Op, opOf, wide, size, returnMode, keepMode, Shape, shape, shapeOf, rowBy, rowOf, lengthOf}
 use Rattle.model.specs.Step.{Effect, written, applied, exchanged, operated, execute}
 use Rattle.model.proofs.EveryByte.{at}
 
@@ -27,7 +27,7 @@ apply-kept : (o : Op) (w keep : Bool) (s : State) → Kept (shape (size w) o) s 
 unfolding applied
 apply-kept o w keep s = record { memory = none-written _ _ _; devices = none-written _ _ _; pc = λ h. rw h }
 
-operate-kept : (o : Op) (w back keep : Bool) (s : State) → Kept (shape (size w) o) s (operated o w back keep s)
+operate-kept : (o : Op) (w r keep : Bool) (s : State) → Kept (shape (size w) o) s (operated o w r keep s)
 unfolding operated
 operate-kept o w false keep s = apply-kept o w keep s
 operate-kept o w true keep s =
@@ -36,14 +36,14 @@ operate-kept o w true keep s =
 
 pub execute-kept : (byte : ℕ) (s : State) → Kept (shapeOf byte) s (execute byte s)
 unfolding execute shapeOf
-execute-kept byte s = operate-kept (opOf byte) (wide byte) (swapped byte) (kept byte) s
+execute-kept byte s = operate-kept (opOf byte) (wide byte) (returnMode byte) (keepMode byte) s
 
 -- the length of an instruction is the last number of its row
 pub length-is : (byte : ℕ) → lengthOf byte ≡ 1 + shapeOf byte .inline
 unfolding rowOf
-length-is byte = by (swapped byte)
+length-is byte = by (returnMode byte)
   where
-    by : (back : Bool) → getD (rowBy back (shapeOf byte)) 4 0 ≡ 1 + shapeOf byte .inline
+    by : (r : Bool) → getD (rowBy r (shapeOf byte)) 4 0 ≡ 1 + shapeOf byte .inline
     by false = refl
     by true = refl
 

@@ -1,7 +1,9 @@
 pub mod Bytes
 pub mod Cases
 pub mod Changes
+pub mod Computing
 pub mod EveryByte
+pub mod Fitting
 pub mod Refusals
 pub mod Runs
 pub mod Stacks

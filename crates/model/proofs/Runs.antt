@@ -7,12 +7,13 @@ use native.Mathlib.Omega.{arith}
 use lib.ListN.{length, getD}
 use Rattle.model.specs.Machine.{State, Sized, InRange}
 use Rattle.model.specs.Step.{step, breaks}
-use Rattle.model.specs.Run.{run, oneMore, trace}
+use Rattle.model.specs.Run.{Answer, reply, run, oneMore, trace}
+use Rattle.model.specs.Run.Answer.{Broke, Spent}
 use Rattle.model.proofs.Steps.{step-sized, step-range}
 
 -- ---- a run and its trace, by the answer of the first step
 
-pub run-broke : (k : ℕ) (s : State) → breaks s ≡ true → run (suc k) s ≡ record { broke = true; steps = 1; state = step s }
+pub run-broke : (k : ℕ) (s : State) → breaks s ≡ true → run (suc k) s ≡ reply Broke 1 0 (step s)
 unfolding run
 run-broke k s e = rw (e, run)
 
@@ -51,14 +52,27 @@ run-within (suc k) s = by (breaks s) refl (run-within k (step s))
     by false e ih = rw (run-on k s e) (omega arith)
 
 -- a run that is Spent has used its budget up
-pub run-spent : (k : ℕ) (s : State) → run k s .broke ≡ false → run k s .steps ≡ k
+pub run-spent : (k : ℕ) (s : State) → run k s .answer ≡ Spent → run k s .steps ≡ k
 unfolding run
 run-spent zero s h = refl
 run-spent (suc k) s h = by (breaks s) refl (run-spent k (step s))
   where
-    by : (b : Bool) → breaks s ≡ b → (run k (step s) .broke ≡ false → run k (step s) .steps ≡ k) → run (suc k) s .steps ≡ suc k
-    by true e ih = absurd (mathlib.Core.Bool.true≢false (rw (run-broke k s e) at h))
+    by : (b : Bool) → breaks s ≡ b → (run k (step s) .answer ≡ Spent → run k (step s) .steps ≡ k) → run (suc k) s .steps ≡ suc k
+    by true e ih =
+        let f : Broke ≡ Spent = rw (run-broke k s e) at h in
+        let z : _≡_ {A = ℕ} 0 1 = cc in
+        absurd (omega arith)
     by false e ih = rw (run-on k s e) (ap suc (ih (rw (run-on k s e) at h)))
+
+-- what holds of the answers Broke and Spent holds of a run's answer
+pub run-answer : (P : Answer → Type 0) → P Broke → P Spent → (k : ℕ) (s : State) → P (run k s .answer)
+unfolding run
+run-answer P b p zero s = p
+run-answer P b p (suc k) s = by (breaks s) refl (run-answer P b p k (step s))
+  where
+    by : (t : Bool) → breaks s ≡ t → P (run k (step s) .answer) → P (run (suc k) s .answer)
+    by true e ih = rw (run-broke k s e) b
+    by false e ih = rw (run-on k s e) ih
 
 -- n steps from a state
 abbrev pub after : ℕ → State → State

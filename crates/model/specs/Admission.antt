@@ -7,7 +7,7 @@ use Prim.Native.Nat.{ℕ, zero, suc, _+_, _-_, _*_, _%_, _≤_, _<_}
 use lib.Dec.{T, eqb, ltb, leb}
 use lib.ListN.{length, getD, set, replicate}
 use Rattle.model.specs.Bytes.{Every, number, oneOf}
-use Rattle.model.specs.Instruction.{kept, swapped, wide, size, opOf, shape, shapeOf, rowOf, working, returning, takenFrom, pushedOn, lengthOf}
+use Rattle.model.specs.Instruction.{keepMode, working, returning, takenFrom, pushedOn, lengthOf}
 use Rattle.model.specs.Step.{offset}
 
 -- the address at which a program starts
@@ -38,23 +38,25 @@ allowed byte =
     && not (eqb byte 0x60)
     && not (eqb (byte % 64) 0x31)
 
--- the depth of the stack k after an instruction, from its depth before: "keep or not"
+-- the depth of the stack k after an instruction, from its depth before: what it takes goes, but under keep
 abbrev pub depthAfter : ℕ → ℕ → ℕ → ℕ
-depthAfter k byte depth = depth - cond (kept byte) 0 (takenFrom k byte) + pushedOn k byte
+depthAfter k byte depth = depth - cond (keepMode byte) 0 (takenFrom k byte) + pushedOn k byte
 
 abbrev pub markAfter : ℕ → ℕ → ℕ → Mark
 markAfter byte w r = marked (depthAfter working byte w) (depthAfter returning byte r)
 
--- "each address where it may go on (after it; for JMI its target; for JCI both) .. BRK goes nowhere."
-unfoldable pub ways : List ℕ → ℕ → List ℕ
-ways program at =
+-- "each address where it may go on (after it; for JMI its target; for JCI both) .. marked with the depths after it. BRK goes
+-- nowhere": the addresses and their marks, from an address that is marked with w and r
+unfoldable pub successors : List ℕ → ℕ → ℕ → ℕ → List (ℕ × Mark)
+successors program at w r =
     let byte = byteAt program at in
+    let mark = markAfter byte w r in
     let after = at + lengthOf byte in
     let target = offset after (number (byteAt program (at + 1) ∷ byteAt program (at + 2) ∷ [])) in
     cond (eqb byte 0x00) []
-    (cond (eqb byte 0x20) (after ∷ target ∷ [])
-    (cond (eqb byte 0x40) (target ∷ [])
-    (after ∷ [])))
+    (cond (eqb byte 0x20) ((after, mark) ∷ (target, mark) ∷ [])
+    (cond (eqb byte 0x40) ((target, mark) ∷ [])
+    ((after, mark) ∷ [])))
 
 -- ---- the rules, for marks of any kind
 
@@ -75,7 +77,7 @@ pub record Rules (program : List ℕ) (marks : ℕ → Mark) (at w r : ℕ) : Ty
   pub workTop : depthAfter working (byteAt program at) w ≤ 255
   pub retTop : depthAfter returning (byteAt program at) r ≤ 255
   -- "each address where it may go on .. is in the program and marked with the depths after it"
-  pub on : Every (λ next. Within program next × (marks next ≡ markAfter (byteAt program at) w r)) (ways program at)
+  pub on : Every (λ next. Within program (next .0) × (marks (next .0) ≡ next .1)) (successors program at w r)
 
 -- "An assignment marks some addresses with depths .. such that"
 pub record Assignment (program : List ℕ) (marks : ℕ → Mark) : Type 0 where
@@ -104,9 +106,9 @@ abbrev pub all : List Bool → Bool
 all [] = true
 all (x ∷ xs) = x && all xs
 
--- all but where the instruction goes on
-unfoldable pub passes : List ℕ → ℕ → ℕ → ℕ → List Bool
-passes program at w r =
+-- the rules but the last
+unfoldable pub ruleTests : List ℕ → ℕ → ℕ → ℕ → List Bool
+ruleTests program at w r =
     let byte = byteAt program at in
     leb w 255
     ∷ leb r 255
@@ -118,15 +120,14 @@ passes program at w r =
     ∷ leb (depthAfter returning byte r) 255
     ∷ []
 
--- each of the addresses has this mark; so it is in the program
-abbrev pub goesOn : List Mark → Mark → List ℕ → Bool
-goesOn marks x [] = true
-goesOn marks x (at ∷ ats) = sameMark (markAt marks at) x && goesOn marks x ats
+-- the last: each successor has its mark, and so is in the program
+abbrev pub goesOn : List Mark → List (ℕ × Mark) → Bool
+goesOn marks [] = true
+goesOn marks (next ∷ nexts) = sameMark (markAt marks (next .0)) (next .1) && goesOn marks nexts
 
 unfoldable pub fits : List ℕ → List Mark → ℕ → Mark → Bool
 fits program marks at unmarked = true
-fits program marks at (marked w r) =
-    all (passes program at w r) && goesOn marks (markAfter (byteAt program at) w r) (ways program at)
+fits program marks at (marked w r) = all (ruleTests program at w r) && goesOn marks (successors program at w r)
 
 unfoldable pub fitsFrom : List ℕ → List Mark → ℕ → List Mark → Bool
 fitsFrom program marks at [] = true
@@ -138,7 +139,7 @@ assigns program marks =
     && sameMark (markAt marks start) (marked 0 0)
     && fitsFrom program marks start marks
 
--- ---- "just the addresses reached from 0100": sweeps over the program, until nothing more can be reached
+-- ---- "just the addresses reached from 0100": sweeps over the program, as many as it has bytes
 
 -- a mark that is there stays
 abbrev pub keepMark : Mark → Mark → Mark
@@ -148,14 +149,14 @@ keepMark (marked w r) x = marked w r
 unfoldable pub markOne : List Mark → ℕ → Mark → List Mark
 markOne marks at x = cond (ltb at start) marks (set marks (at - start) (keepMark (markAt marks at) x))
 
-unfoldable pub markEach : List Mark → Mark → List ℕ → List Mark
-markEach marks x [] = marks
-markEach marks x (at ∷ ats) = markEach (markOne marks at x) x ats
+unfoldable pub markEach : List Mark → List (ℕ × Mark) → List Mark
+markEach marks [] = marks
+markEach marks (next ∷ nexts) = markEach (markOne marks (next .0) (next .1)) nexts
 
--- from an address with this mark, each address where it may go on
+-- the successors of an address with this mark
 unfoldable pub follow : List ℕ → List Mark → ℕ → Mark → List Mark
 follow program marks at unmarked = marks
-follow program marks at (marked w r) = markEach marks (markAfter (byteAt program at) w r) (ways program at)
+follow program marks at (marked w r) = markEach marks (successors program at w r)
 
 -- the next n addresses, one after the other
 unfoldable pub sweep : List ℕ → ℕ → ℕ → List Mark → List Mark
@@ -167,18 +168,12 @@ unfoldable pub sweeps : List ℕ → ℕ → List Mark → List Mark
 sweeps program zero marks = marks
 sweeps program (suc n) marks = sweeps program n (sweep program (length program) start marks)
 
--- as many sweeps as there are addresses reach all of them
 unfoldable pub reached : List ℕ → List Mark
 reached program = sweeps program (length program) (set (replicate (length program) unmarked) 0 (marked 0 0))
 
--- "Admitted exactly if an assignment exists": what is reached is one, or there is none
+-- what is reached is an assignment
 unfoldable pub admitted : List ℕ → Bool
 admitted program = assigns program (reached program)
-
--- names the definitions: a proof that computes an admission says `unfolding admitting`
-unfoldable pub admitting : Unit {0}
-unfolding byteAt allowed ways markAt passes fits fitsFrom assigns markOne markEach follow sweep sweeps reached admitted rowOf shapeOf shape size opOf wide swapped kept number
-admitting = tt
 
 -- ---- the sheet
 

@@ -7,8 +7,8 @@ use lib.Dec.{eqb, ltb, leb}
 use lib.ListN.{length, getD, set, take, drop}
 use Rattle.model.specs.Bytes.{number, readRing, zeros}
 use Rattle.model.specs.Machine.{memorySize, pageSize, stackSize, stack, State}
-use Rattle.model.specs.Step.{step, breaks}
-use Rattle.model.specs.Run.{Ran, run}
+use Rattle.model.specs.Run.{Answer, Reply, reply, stepReply, run}
+use Rattle.model.specs.Run.Answer.{Refused, Loaded, WentOn, Broke, Spent, Ignored, Admitted}
 use Rattle.model.specs.Admission.{start, admitMost, admitted, reached, sheetRecord, sheetOf}
 
 -- ---- numbered replies
@@ -34,12 +34,7 @@ bufferRows s =
     ∷ (4, not (hasLength (s .ret .bytes) stackSize))
     ∷ []
 
--- what a call answers
-pub data Answer : Type 0 where
-  Refused : ℕ → Answer
-  Loaded WentOn Broke Spent Ignored Admitted : Answer
-
--- the number of a refusal, 0 for any other answer
+-- the number of an answer: 0 unless it is a refusal
 abbrev pub numberOf : Answer → ℕ
 numberOf (Refused n) = n
 numberOf Loaded = 0
@@ -49,25 +44,11 @@ numberOf Spent = 0
 numberOf Ignored = 0
 numberOf Admitted = 0
 
--- the answer of a call on a machine, the steps, the verdict, and the four buffers and the machine record afterwards
-pub record Reply : Type 0 where
-  pub answer : Answer
-  pub steps : ℕ
-  pub verdict : ℕ
-  pub state : State
-
-abbrev pub reply : Answer → ℕ → ℕ → State → Reply
-reply answer steps verdict s = record { answer = answer; steps = steps; verdict = verdict; state = s }
-
 -- "A refusal returns its number, 0 steps, verdict 0 and that record unchanged", and leaves "all as found"; without one
 -- the call does what it does
 unfoldable pub unless : ℕ → State → Reply → Reply
 unless zero s done = done
 unless (suc n) s done = reply (Refused (suc n)) 0 0 s
-
--- what a run answers
-abbrev pub ranReply : ℕ → Ran → Reply
-ranReply verdict r = reply (cond (r .broke) Broke Spent) (r .steps) verdict (r .state)
 
 -- the state, its counter at this address
 abbrev pub from : ℕ → State → State
@@ -100,10 +81,10 @@ loadCall program s = unless (refusal (loadRows program s)) s (reply Loaded 0 0 (
 -- ---- step and run
 
 unfoldable pub stepCall : State → Reply
-stepCall s = unless (refusal (bufferRows s)) s (reply (cond (breaks s) Broke WentOn) 1 0 (step s))
+stepCall s = unless (refusal (bufferRows s)) s (stepReply s)
 
 unfoldable pub runCall : ℕ → State → Reply
-runCall budget s = unless (refusal (bufferRows s)) s (ranReply 0 (run budget s))
+runCall budget s = unless (refusal (bufferRows s)) s (run budget s)
 
 -- ---- event
 
@@ -119,7 +100,7 @@ vector device s = number (readRing pageSize (s .devices) (16 * device) 2)
 unfoldable pub eventCall : ℕ → ℕ → State → Reply
 eventCall device budget s =
     unless (refusal (eventRows device s)) s
-    (cond (eqb (vector device s) 0) (reply Ignored 0 0 s) (ranReply 0 (run budget (from (vector device s) s))))
+    (cond (eqb (vector device s) 0) (reply Ignored 0 0 s) (run budget (from (vector device s) s)))
 
 -- ---- frame
 
@@ -162,18 +143,29 @@ framed frame s =
     }
 
 -- "The verdict is port F2 if Broke and 0 if Spent"
-abbrev pub verdictOf : Ran → ℕ
-verdictOf r = cond (r .broke) (getD (r .state .devices) verdictPort 0) 0
+abbrev pub verdictOf : Answer → State → ℕ
+verdictOf Broke s = getD (s .devices) verdictPort 0
+verdictOf (Refused n) s = 0
+verdictOf Loaded s = 0
+verdictOf WentOn s = 0
+verdictOf Spent s = 0
+verdictOf Ignored s = 0
+verdictOf Admitted s = 0
+
+abbrev pub withVerdict : Reply → Reply
+withVerdict r = reply (r .answer) (r .steps) (verdictOf (r .answer) (r .state)) (r .state)
 
 unfoldable pub frameCall : List ℕ → ℕ → State → Reply
-frameCall frame budget s =
-    let r = run budget (framed frame s) in
-    unless (refusal (frameRows frame s)) s (ranReply (verdictOf r) r)
+frameCall frame budget s = unless (refusal (frameRows frame s)) s (withVerdict (run budget (framed frame s)))
+
+-- "0 drops the frame, any other number passes it"
+abbrev pub passed : ℕ → Bool
+passed verdict = not (eqb verdict 0)
 
 -- ---- admit
 
 -- the answer of an admission, and the sheet afterwards
-pub record Judgement : Type 0 where
+pub record AdmitResult : Type 0 where
   pub answer : Answer
   pub sheet : List ℕ
 
@@ -187,10 +179,10 @@ admitRows program sheet =
     ∷ []
 
 -- the sheet is written; 11 leaves "sheet all zero"; 5, 9 and 10 leave the "sheet as found"
-unfoldable pub judged : ℕ → List ℕ → List ℕ → Judgement
-judged zero program sheet = record { answer = Admitted; sheet = sheetOf (reached program) program }
-judged (suc n) program sheet =
+unfoldable pub admitBy : ℕ → List ℕ → List ℕ → AdmitResult
+admitBy zero program sheet = record { answer = Admitted; sheet = sheetOf (reached program) program }
+admitBy (suc n) program sheet =
     record { answer = Refused (suc n); sheet = cond (eqb (suc n) 11) (zeros (length sheet)) sheet }
 
-unfoldable pub admitCall : List ℕ → List ℕ → Judgement
-admitCall program sheet = judged (refusal (admitRows program sheet)) program sheet
+unfoldable pub admitCall : List ℕ → List ℕ → AdmitResult
+admitCall program sheet = admitBy (refusal (admitRows program sheet)) program sheet

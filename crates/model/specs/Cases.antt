@@ -1,17 +1,19 @@
--- Document 01, "Bench sheet": the cases marked *, and the slips that it names, as programs and what is claimed of them.
+-- Document 01, "Bench sheet": the cases marked *, as programs and what is claimed of them, and the sheet of its example;
+-- with the mistakes that it names, the numbered replies, frame and event calls, and steps that wrap a stack.
 -- Assumes nothing.
 use mathlib.Core.Bool.{Bool, true, false, Bool·beq, _&&_}
 use mathlib.Core.List.{List, [], _∷_, _++_}
 use Prim.Native.Nat.{ℕ, _+_, _*_, _-_}
 use lib.Dec.{eqb}
 use lib.ListN.{length, getD, take, replicate}
-use Rattle.model.specs.Bytes.{zeros}
+use Rattle.model.specs.Bytes.{number, readRing, zeros}
 use Rattle.model.specs.Machine.{memorySize, pageSize, stackSize, Stack, stack, State}
 use Rattle.model.specs.Instruction.{working, returning}
 use Rattle.model.specs.Step.{stackWraps}
-use Rattle.model.specs.Admission.{start, all, passes, sheetRecord}
-use Rattle.model.specs.Calls.{Answer, numberOf, Reply, frameSize, loadCall, stepCall, runCall, eventCall, frameCall, admitCall}
-use Rattle.model.specs.Calls.Answer.{Refused, Loaded, WentOn, Broke, Spent, Ignored, Admitted}
+use Rattle.model.specs.Admission.{start, all, ruleTests, sheetRecord}
+use Rattle.model.specs.Run.{Answer, Reply}
+use Rattle.model.specs.Run.Answer.{Refused, Loaded, WentOn, Broke, Spent, Ignored, Admitted}
+use Rattle.model.specs.Calls.{numberOf, frameSize, loadCall, stepCall, runCall, eventCall, frameCall, admitCall}
 
 -- what may be claimed: the answer of the run, its steps, the counter and a stack's pointer afterwards, all the bytes of a
 -- stack, byte i of the working stack's buffer, and the answer of admission
@@ -35,15 +37,15 @@ sameBytes [] (y ∷ ys) = false
 sameBytes (x ∷ xs) [] = false
 sameBytes (x ∷ xs) (y ∷ ys) = eqb x y && sameBytes xs ys
 
--- an answer as a number: the refusal's, or one past all of them
+-- answers told apart by a number
 abbrev pub answerCode : Answer → ℕ
-answerCode (Refused n) = n
-answerCode Loaded = 101
-answerCode WentOn = 102
-answerCode Broke = 103
-answerCode Spent = 104
-answerCode Ignored = 105
-answerCode Admitted = 106
+answerCode Loaded = 0
+answerCode WentOn = 1
+answerCode Broke = 2
+answerCode Spent = 3
+answerCode Ignored = 4
+answerCode Admitted = 5
+answerCode (Refused n) = 6 + n
 
 abbrev pub sameAnswer : Answer → Answer → Bool
 sameAnswer a b = eqb (answerCode a) (answerCode b)
@@ -85,9 +87,9 @@ used = usedWith memorySize pageSize stackSize stackSize
 unfoldable pub loadAndRun : List ℕ → ℕ → Reply
 loadAndRun program budget = runCall budget (loadCall program used .state)
 
-unfoldable pub right : List Case → Bool
-right [] = true
-right (c ∷ cs) = allClaimed (c .program) (loadAndRun (c .program) (c .budget)) (c .claims) && right cs
+unfoldable pub allHold : List Case → Bool
+allHold [] = true
+allHold (c ∷ cs) = allClaimed (c .program) (loadAndRun (c .program) (c .budget)) (c .claims) && allHold cs
 
 -- ---- the cases
 
@@ -119,7 +121,7 @@ starred =
     (answers Spent ∷ counter 0x0102 ∷ workPointer 1 ∷ admission (Refused 11) ∷ [])
     ∷ case (0x40 ∷ 0xFF ∷ 0xFD ∷ []) 7
     (answers Spent ∷ steps 7 ∷ counter 0x0100 ∷ admission Admitted ∷ [])
-    -- admission refuses "for the POP at 0105": see the first of the slips
+    -- admission refuses "for the POP at 0105": see the first of the mistakes
     ∷ case (0x80 ∷ 0x01 ∷ 0x20 ∷ 0x00 ∷ 0x01 ∷ 0x02 ∷ 0x00 ∷ []) enough
     (answers Broke ∷ steps 3 ∷ admission (Refused 11) ∷ [])
     ∷ case (0xA0 ∷ 0x01 ∷ 0x05 ∷ 0x2E ∷ 0x00 ∷ 0x00 ∷ []) enough
@@ -128,9 +130,23 @@ starred =
     (answers Broke ∷ workIs (0x00 ∷ 0x80 ∷ []) ∷ [])
     ∷ []
 
+-- "The sheet program, given 80 01 80 F2 17 00, writes just"
+unfoldable pub example : List ℕ
+example = 0x80 ∷ 0x01 ∷ 0x80 ∷ 0xF2 ∷ 0x17 ∷ 0x00 ∷ []
+
+unfoldable pub exampleSheet : List ℕ
+exampleSheet =
+    0x01 ∷ 0x00 ∷ 0x00 ∷ 0x80
+    ∷ 0x00 ∷ 0x00 ∷ 0x00 ∷ 0x01
+    ∷ 0x01 ∷ 0x01 ∷ 0x00 ∷ 0x80
+    ∷ 0x00 ∷ 0x00 ∷ 0x00 ∷ 0xF2
+    ∷ 0x01 ∷ 0x02 ∷ 0x00 ∷ 0x17
+    ∷ 0x01 ∷ 0x00 ∷ 0x00 ∷ 0x00
+    ∷ []
+
 -- "Slips to strike out", where the cases above do not show them
-unfoldable pub slips : List Case
-slips =
+unfoldable pub mistakes : List Case
+mistakes =
     -- the last case but two above, with BRK in place of the POP
     case (0x80 ∷ 0x01 ∷ 0x20 ∷ 0x00 ∷ 0x01 ∷ 0x00 ∷ 0x00 ∷ []) enough
     (answers Broke ∷ steps 3 ∷ admission Admitted ∷ [])
@@ -152,7 +168,7 @@ slips =
     ∷ []
 
 -- "Admission that .. takes depth 256 for 0": working depths at which ROT2 with keep, which takes six bytes and pushes six,
--- obeys the rules, and at which it does not
+-- passes all the rules but the last, and at which it does not
 unfoldable pub depthsFine : List ℕ
 depthsFine = 6 ∷ 7 ∷ 249 ∷ []
 
@@ -161,7 +177,7 @@ depthsNot = 0 ∷ 5 ∷ 250 ∷ 255 ∷ 256 ∷ []
 
 unfoldable pub depthsAre : Bool → List ℕ → Bool
 depthsAre b [] = true
-depthsAre b (w ∷ ws) = Bool·beq (all (passes (0xA5 ∷ []) start w 0)) b && depthsAre b ws
+depthsAre b (w ∷ ws) = Bool·beq (all (ruleTests (0xA5 ∷ []) start w 0)) b && depthsAre b ws
 
 -- ---- "Numbered replies": the number that a call answers, 0 if it is not refused, and the one that it should
 
@@ -195,6 +211,63 @@ abbrev pub agree : List (ℕ × ℕ) → Bool
 agree [] = true
 agree (pair ∷ pairs) = eqb (pair .0) (pair .1) && agree pairs
 
+-- ---- frame and event calls, one after the other: what is found, and what should be
+
+-- A filter whose verdict is the first data byte plus what port F2 holds, and which leaves a byte on the working stack:
+-- LIT 82 LDZ LIT F2 DEI ADD LIT F2 DEO LIT 09 BRK
+unfoldable pub summing : List ℕ
+summing = 0x80 ∷ 0x82 ∷ 0x10 ∷ 0x80 ∷ 0xF2 ∷ 0x16 ∷ 0x18 ∷ 0x80 ∷ 0xF2 ∷ 0x17 ∷ 0x80 ∷ 0x09 ∷ 0x00 ∷ []
+
+-- a load; a frame that is Broke; one that is Spent just before BRK; one that is Broke again
+unfoldable pub framesSeen : List (ℕ × ℕ)
+framesSeen =
+    let a = frameCall (frameOf 1 (0x03 ∷ [])) 9 (loadCall summing used .state) in
+    let b = frameCall (frameOf 1 (0x04 ∷ [])) 8 (a .state) in
+    let c = frameCall (frameOf 1 (0x05 ∷ [])) 10000 (b .state) in
+    (answerCode (a .answer), answerCode Broke)
+    ∷ (a .steps, 9)
+    ∷ (a .verdict, 3)
+    ∷ (a .state .work .pointer, 1)
+    ∷ (answerCode (b .answer), answerCode Spent)
+    ∷ (b .steps, 8)
+    ∷ (b .verdict, 0)
+    ∷ (getD (b .state .devices) 0xF2 0, 4)
+    ∷ (c .verdict, 5)
+    ∷ (c .state .work .pointer, 1)
+    ∷ (c .state .ret .pointer, 0)
+    ∷ (c .state .pc, 0x010D)
+    ∷ (number (readRing memorySize (c .state .memory) 0x0080 3), 0x010705)
+    ∷ []
+
+-- a machine with zeros in memory, device 1 with the vector 0200, device 2 with the vector 0
+unfoldable pub vectored : State
+vectored =
+    record {
+      memory = zeros memorySize;
+      devices = zeros 16 ++ (0x02 ∷ 0x00 ∷ []) ++ zeros 238;
+      work = stack (zeros stackSize) 3;
+      ret = stack (zeros stackSize) 4;
+      pc = 0x0300;
+    }
+
+unfoldable pub eventsSeen : List (ℕ × ℕ)
+eventsSeen =
+    let a = eventCall 1 5 vectored in
+    let b = eventCall 1 0 vectored in
+    let c = eventCall 2 5 vectored in
+    (answerCode (a .answer), answerCode Broke)
+    ∷ (a .steps, 1)
+    ∷ (a .state .pc, 0x0201)
+    ∷ (a .state .work .pointer, 3)
+    ∷ (a .state .ret .pointer, 4)
+    ∷ (answerCode (b .answer), answerCode Spent)
+    ∷ (b .steps, 0)
+    ∷ (b .state .pc, 0x0200)
+    ∷ (answerCode (c .answer), answerCode Ignored)
+    ∷ (c .steps, 0)
+    ∷ (c .state .pc, 0x0300)
+    ∷ []
+
 -- ---- "A step wraps a stack where a pop, a read under keep or a push goes round between 0 and 255."
 
 -- a stack, an instruction byte, the pointer of that stack before it
@@ -206,8 +279,9 @@ pub record Place : Type 0 where
 abbrev pub atPointer : ℕ → ℕ → ℕ → Place
 atPointer k byte pointer = record { stack = k; byte = byte; pointer = pointer }
 
--- INC pops one byte and pushes one; with keep it reads one and pushes one above it; LIT pushes one, LIT2 two; POP with
--- keep reads one; ROT2 pops six and pushes six; JSI pushes two on the return stack
+-- INC (01) pops one byte and pushes one, with keep (81) it reads one and pushes one above it; LIT (80) pushes one, LIT2
+-- (A0) two; POP with keep (82) reads one; ROT2 (25) pops six and pushes six; DUP (06) pops one and pushes two; JSI (60)
+-- pushes two on the return stack
 unfoldable pub wrapping : List Place
 wrapping =
     atPointer working 0x01 0
@@ -220,8 +294,8 @@ wrapping =
     ∷ atPointer returning 0x60 254
     ∷ []
 
-unfoldable pub level : List Place
-level =
+unfoldable pub notWrapping : List Place
+notWrapping =
     atPointer working 0x01 1
     ∷ atPointer working 0x01 255
     ∷ atPointer working 0x81 254

@@ -25,20 +25,6 @@ pub data Op : Type 0 where
 
 -- ---- the byte
 
--- 08 to 0B
-abbrev pub comparisons : List Comparison
-comparisons = EQU ∷ NEQ ∷ GTH ∷ LTH ∷ []
-
-abbrev pub comparisonAt : ℕ → Comparison
-comparisonAt k = getD comparisons k EQU
-
--- 18 to 1E
-abbrev pub arithmetics : List Arithmetic
-arithmetics = ADD ∷ SUB ∷ MUL ∷ DIV ∷ AND ∷ ORA ∷ EOR ∷ []
-
-abbrev pub arithmeticAt : ℕ → Arithmetic
-arithmeticAt k = getD arithmetics k ADD
-
 -- "Exceptions come first": 00, 20, 40, 60, 80, A0, C0, E0
 abbrev pub exceptions : List Op
 exceptions = BRK ∷ JCI ∷ JMI ∷ JSI ∷ LIT ∷ LIT ∷ LIT ∷ LIT ∷ []
@@ -72,49 +58,48 @@ size false = 1
 size true = 2
 
 -- "Bit 6: the return stack is the main one and the working stack the other."
-unfoldable pub swapped : ℕ → Bool
-swapped byte = eqb (byte / 64 % 2) 1
+unfoldable pub returnMode : ℕ → Bool
+returnMode byte = eqb (byte / 64 % 2) 1
 
 -- "Bit 7: keep"
-unfoldable pub kept : ℕ → Bool
-kept byte = eqb (byte / 128 % 2) 1
+unfoldable pub keepMode : ℕ → Bool
+keepMode byte = eqb (byte / 128 % 2) 1
 
 -- ---- what it takes and gives
 
--- Sizes in bytes: of the operands, top last; of the numbers pushed on the main stack, and on the other one; of what
+-- Sizes in bytes: of the operands, top last; of the results pushed on the main stack, and on the other one; of what
 -- follows the instruction byte; of what is stored in memory, and in the device page. And whether it can jump
 pub record Shape : Type 0 where
   pub takes : List ℕ
   pub gives : List ℕ
-  pub hands : List ℕ
+  pub other : List ℕ
   pub inline : ℕ
   pub stores : ℕ
   pub sends : ℕ
   pub jumps : Bool
 
+abbrev pub sizes : List ℕ → List ℕ → List ℕ → ℕ → ℕ → ℕ → Bool → Shape
+sizes ks rs os i m d j = record { takes = ks; gives = rs; other = os; inline = i; stores = m; sends = d; jumps = j }
+
 infix 20 _⟶_
 abbrev pub _⟶_ : List ℕ → List ℕ → Shape
-ks ⟶ rs = record { takes = ks; gives = rs; hands = []; inline = 0; stores = 0; sends = 0; jumps = false }
+ks ⟶ rs = sizes ks rs [] 0 0 0 false
 
-abbrev pub handing : List ℕ → Shape → Shape
-handing ks h =
-    record { takes = h .takes; gives = h .gives; hands = ks; inline = h .inline; stores = h .stores; sends = h .sends; jumps = h .jumps }
+-- a shape with results for the other stack, with bytes that follow, with a store in memory or in the device page, with a jump
+abbrev pub onOther : List ℕ → Shape → Shape
+onOther os h = sizes (h .takes) (h .gives) os (h .inline) (h .stores) (h .sends) (h .jumps)
 
 abbrev pub followed : ℕ → Shape → Shape
-followed n h =
-    record { takes = h .takes; gives = h .gives; hands = h .hands; inline = n; stores = h .stores; sends = h .sends; jumps = h .jumps }
+followed n h = sizes (h .takes) (h .gives) (h .other) n (h .stores) (h .sends) (h .jumps)
 
 abbrev pub storing : ℕ → Shape → Shape
-storing n h =
-    record { takes = h .takes; gives = h .gives; hands = h .hands; inline = h .inline; stores = n; sends = h .sends; jumps = h .jumps }
+storing n h = sizes (h .takes) (h .gives) (h .other) (h .inline) n (h .sends) (h .jumps)
 
 abbrev pub sending : ℕ → Shape → Shape
-sending n h =
-    record { takes = h .takes; gives = h .gives; hands = h .hands; inline = h .inline; stores = h .stores; sends = n; jumps = h .jumps }
+sending n h = sizes (h .takes) (h .gives) (h .other) (h .inline) (h .stores) n (h .jumps)
 
 abbrev pub jumping : Shape → Shape
-jumping h =
-    record { takes = h .takes; gives = h .gives; hands = h .hands; inline = h .inline; stores = h .stores; sends = h .sends; jumps = true }
+jumping h = sizes (h .takes) (h .gives) (h .other) (h .inline) (h .stores) (h .sends) true
 
 -- Document 000's stack notation, with n for the size that bit 5 chooses; "8" and "16" are 1 and 2.
 -- Byte 60, JSI, has bit 6 set: its main stack is the return stack.
@@ -134,8 +119,8 @@ shape n OVR = n ∷ n ∷ [] ⟶ n ∷ n ∷ n ∷ []
 shape n (compare o) = n ∷ n ∷ [] ⟶ 1 ∷ []
 shape n JMP = jumping (n ∷ [] ⟶ [])
 shape n JCN = jumping (1 ∷ n ∷ [] ⟶ [])
-shape n JSR = jumping (handing (2 ∷ []) (n ∷ [] ⟶ []))
-shape n STH = handing (n ∷ []) (n ∷ [] ⟶ [])
+shape n JSR = jumping (onOther (2 ∷ []) (n ∷ [] ⟶ []))
+shape n STH = onOther (n ∷ []) (n ∷ [] ⟶ [])
 shape n LDZ = 1 ∷ [] ⟶ n ∷ []
 shape n STZ = storing n (n ∷ 1 ∷ [] ⟶ [])
 shape n LDR = 1 ∷ [] ⟶ n ∷ []
@@ -155,11 +140,11 @@ shapeOf byte = shape (size (wide byte)) (opOf byte)
 -- "bytes taken from each stack (read, under keep too), bytes pushed on each, length of the instruction": taken from the
 -- working stack, taken from the return stack, pushed on the working stack, pushed on the return stack, length
 abbrev pub rowBy : Bool → Shape → List ℕ
-rowBy false h = sum (h .takes) ∷ 0 ∷ sum (h .gives) ∷ sum (h .hands) ∷ (1 + h .inline) ∷ []
-rowBy true h = 0 ∷ sum (h .takes) ∷ sum (h .hands) ∷ sum (h .gives) ∷ (1 + h .inline) ∷ []
+rowBy false h = sum (h .takes) ∷ 0 ∷ sum (h .gives) ∷ sum (h .other) ∷ (1 + h .inline) ∷ []
+rowBy true h = 0 ∷ sum (h .takes) ∷ sum (h .other) ∷ sum (h .gives) ∷ (1 + h .inline) ∷ []
 
 unfoldable pub rowOf : ℕ → List ℕ
-rowOf byte = rowBy (swapped byte) (shapeOf byte)
+rowOf byte = rowBy (returnMode byte) (shapeOf byte)
 
 -- the two stacks, as places of a row
 abbrev pub working : ℕ

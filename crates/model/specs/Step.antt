@@ -7,8 +7,8 @@ use lib.Bits.{bitAnd, bitOr, bitXor}
 use lib.Dec.{eqb, ltb}
 use lib.ListN.{getD}
 use Rattle.model.specs.Bytes.{word, number, readRing, writeRing, sum}
-use Rattle.model.specs.Machine.{memorySize, pageSize, Stack, State, pushed, down, popped, top, lowered, taken, numbers, operands}
-use Rattle.model.specs.Instruction.{Op, Comparison, Arithmetic, opOf, wide, size, swapped, kept, Shape, shape, shapeOf, rowOf, working, returning, takenFrom, pushedOn}
+use Rattle.model.specs.Machine.{memorySize, pageSize, stackSize, Stack, State, pushed, down, popped, top, lowered, taken, numbers, operands}
+use Rattle.model.specs.Instruction.{Op, Comparison, Arithmetic, opOf, wide, size, returnMode, keepMode, Shape, shape, shapeOf, rowOf, working, returning, takenFrom, pushedOn}
 use Rattle.model.specs.Instruction.Comparison.{EQU, NEQ, GTH, LTH}
 use Rattle.model.specs.Instruction.Arithmetic.{ADD, SUB, MUL, DIV, AND, ORA, EOR}
 use Rattle.model.specs.Instruction.Op.{BRK, JCI, JMI, JSI, LIT, INC, POP, NIP, SWP, ROT, DUP, OVR, compare, JMP, JCN, JSR, STH, LDZ, STZ, LDR, STR, LDA, STA, DEI, DEO, compute, SFT}
@@ -75,8 +75,8 @@ pub record Effect : Type 0 where
 abbrev pub give : List ℕ → Effect
 give vs = record { main = vs; other = []; target = 0; ring = 0; place = 0; value = 0 }
 
-abbrev pub hand : List ℕ → Effect
-hand vs = record { main = []; other = vs; target = 0; ring = 0; place = 0; value = 0 }
+abbrev pub giveOther : List ℕ → Effect
+giveOther vs = record { main = []; other = vs; target = 0; ring = 0; place = 0; value = 0 }
 
 abbrev pub jump : ℕ → Effect
 jump to = record { main = []; other = []; target = to; ring = 0; place = 0; value = 0 }
@@ -103,7 +103,7 @@ effect memory devices n next i a b c (compare o) = give (flag (compared o a b) �
 effect memory devices n next i a b c JMP = jump (address n next a)
 effect memory devices n next i a b c JCN = jump (cond (eqb a 0) next (address n next b))
 effect memory devices n next i a b c JSR = record { main = []; other = next ∷ []; target = address n next a; ring = 0; place = 0; value = 0 }
-effect memory devices n next i a b c STH = hand (a ∷ [])
+effect memory devices n next i a b c STH = giveOther (a ∷ [])
 effect memory devices n next i a b c LDZ = give (number (readRing zeroPageRing memory a n) ∷ [])
 effect memory devices n next i a b c STZ = store zeroPageRing a b
 effect memory devices n next i a b c LDR = give (number (readRing memorySize memory (relative next a) n) ∷ [])
@@ -135,7 +135,7 @@ mainAfter o w keep e s = pushed (words (shape (size w) o .gives) (e .main)) (tak
 
 -- the other stack afterwards
 unfoldable pub otherAfter : Op → Bool → Effect → Stack → Stack
-otherAfter o w e s = pushed (words (shape (size w) o .hands) (e .other)) s
+otherAfter o w e s = pushed (words (shape (size w) o .other) (e .other)) s
 
 -- memory or device page afterwards, n bytes being stored
 unfoldable pub written : Effect → ℕ → List ℕ → List ℕ
@@ -149,11 +149,17 @@ nextOf h s = (s .pc + (1 + h .inline)) % 65536
 abbrev pub inlineOf : Shape → State → ℕ
 inlineOf h s = number (readRing memorySize (s .memory) (s .pc + 1) (h .inline))
 
+-- the effect of an operation in a state
+abbrev pub effectAt : Op → Bool → State → Effect
+effectAt o w s =
+    let h = shape (size w) o in
+    effectOn (s .memory) (s .devices) (nextOf h s) (inlineOf h s) o w (s .work)
+
 -- all of it
 unfoldable pub applied : Op → Bool → Bool → State → State
 applied o w keep s =
     let h = shape (size w) o in
-    let e = effectOn (s .memory) (s .devices) (nextOf h s) (inlineOf h s) o w (s .work) in
+    let e = effectAt o w s in
     record {
       memory = written e (h .stores) (s .memory);
       devices = written e (h .sends) (s .devices);
@@ -171,11 +177,11 @@ exchanged true s = record { memory = s .memory; devices = s .devices; work = s .
 
 -- an operation by its mode bits: wide, the return stack the main one, keep
 unfoldable pub operated : Op → Bool → Bool → Bool → State → State
-operated o w back keep s = exchanged back (applied o w keep (exchanged back s))
+operated o w r keep s = exchanged r (applied o w keep (exchanged r s))
 
 -- the instruction with this byte, whatever byte memory has at the counter
 unfoldable pub execute : ℕ → State → State
-execute byte s = operated (opOf byte) (wide byte) (swapped byte) (kept byte) s
+execute byte s = operated (opOf byte) (wide byte) (returnMode byte) (keepMode byte) s
 
 -- the byte at the counter
 abbrev pub fetched : State → ℕ
@@ -189,11 +195,6 @@ step s = execute (fetched s) s
 abbrev pub breaks : State → Bool
 breaks s = eqb (fetched s) 0x00
 
--- names the definitions: a proof that computes a step says `unfolding stepping`
-unfoldable pub stepping : Unit {0}
-unfolding step execute operated applied written otherAfter mainAfter words effectOn effect address relative shifted computed compared operands numbers lowered top popped pushed rowOf shapeOf shape size opOf wide swapped kept word number readRing writeRing
-stepping = tt
-
 -- ---- "A step wraps a stack where a pop, a read under keep or a push goes round between 0 and 255."
 
 -- n bytes are popped, or read under keep, from this pointer on
@@ -204,12 +205,12 @@ popWraps pointer (suc n) = eqb pointer 0 || popWraps (down pointer) n
 -- n bytes are pushed from this pointer on
 unfoldable pub pushWraps : ℕ → ℕ → Bool
 pushWraps pointer zero = false
-pushWraps pointer (suc n) = eqb pointer 255 || pushWraps ((pointer + 1) % 256) n
+pushWraps pointer (suc n) = eqb pointer 255 || pushWraps ((pointer + 1) % stackSize) n
 
 -- the stack k, with this pointer, when the byte is executed: what is taken from it, then what is pushed on it
 unfoldable pub stackWraps : ℕ → ℕ → ℕ → Bool
 stackWraps k byte pointer =
-    popWraps pointer (takenFrom k byte) || pushWraps (lowered (kept byte) (takenFrom k byte) pointer) (pushedOn k byte)
+    popWraps pointer (takenFrom k byte) || pushWraps (lowered (keepMode byte) (takenFrom k byte) pointer) (pushedOn k byte)
 
 -- the step from this state
 unfoldable pub wraps : State → Bool

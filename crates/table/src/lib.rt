@@ -15,7 +15,8 @@ pub fn table() -> [u8; 1280]
     ROWS
 }
 
-// Column `column` of the row of an instruction byte: 0 and 1 taken, 2 and 3 pushed, 4 length.
+// A column of the row of an instruction byte: 0 taken from the working stack, 1 taken from the return stack, 2 pushed on the
+// working stack, 3 pushed on the return stack, 4 length of the instruction.
 pub fn entry(rows: &[u8; 1280], byte: u8, column: usize) -> u8
     requires { ⌜ RowTable (now rows) × (column < 5) ⌝ }
     ensures { λ r. ⌜ r ≡ getD (rowOf byte) column 0 ⌝ }

@@ -1,0 +1,28 @@
+-- Names for groups of definitions: a proof that computes says `unfolding stepping`, `admitting` or `calling`. Assumes nothing.
+use Rattle.model.specs.Bytes.{word, number, readRing, writeRing}
+use Rattle.model.specs.Machine.{pushed, popped, top, lowered, numbers, operands}
+use Rattle.model.specs.Instruction.{opOf, wide, size, returnMode, keepMode, shape, shapeOf, rowOf}
+use Rattle.model.specs.Step.{compared, computed, shifted, relative, address, effect, effectOn, words, mainAfter, otherAfter, written, applied, operated, execute, step}
+use Rattle.model.specs.Run.{run}
+use Rattle.model.specs.Admission.{byteAt, allowed, successors, markAt, ruleTests, fits, fitsFrom, assigns, markOne, markEach, follow, sweep, sweeps, reached, admitted, sheetOf}
+use Rattle.model.specs.Calls.{refusal, bufferRows, unless, loadRows, load, loadCall, stepCall, runCall, eventRows, vector, eventCall, wellFormed, frameRows, framed, frameCall, admitRows, admitBy, admitCall}
+
+-- the row of a byte
+unfoldable pub decoding : Unit {0}
+unfolding rowOf shapeOf shape size opOf wide returnMode keepMode
+decoding = tt
+
+-- a step
+unfoldable pub stepping : Unit {0}
+unfolding step execute operated applied written otherAfter mainAfter words effectOn effect address relative shifted computed compared operands numbers lowered top popped pushed word number readRing writeRing decoding
+stepping = tt
+
+-- an admission
+unfoldable pub admitting : Unit {0}
+unfolding byteAt allowed successors markAt ruleTests fits fitsFrom assigns markOne markEach follow sweep sweeps reached admitted sheetOf number decoding
+admitting = tt
+
+-- the calls
+unfoldable pub calling : Unit {0}
+unfolding refusal bufferRows unless loadRows load loadCall stepCall runCall eventRows vector eventCall wellFormed frameRows framed frameCall admitRows admitBy admitCall run stepping admitting
+calling = tt
