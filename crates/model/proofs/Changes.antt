@@ -1,15 +1,16 @@
 -- Which instructions can change memory, device page and counter. Assumes nothing.
 use mathlib.Core.Path.{_≡_, refl}
-use mathlib.Core.Bool.{Bool, true, false, Bool·beq, _||_}
+use mathlib.Core.Bool.{Bool, true, false, _||_}
 use mathlib.Core.List.{List, [], _∷_}
 use Prim.Native.Nat.{ℕ, _+_, _%_, _<_}
-use lib.Dec.{T, ltb}
+use lib.Dec.{ltb}
 use lib.ListN.{getD}
 use Rattle.model.specs.Bytes.{oneOf, word, writeRing}
 use Rattle.model.specs.Machine.{State}
 use Rattle.model.specs.Instruction.{Op, opOf, wide, size, returnMode, keepMode, Shape, shape, shapeOf, rowBy, rowOf, lengthOf}
 use Rattle.model.specs.Step.{Effect, written, applied, exchanged, operated, execute}
-use Rattle.model.proofs.EveryByte.{at}
+use Rattle.model.proofs.Computing.{decoding}
+use Rattle.model.proofs.EveryByte.{every-byte}
 
 -- ---- an instruction that stores nothing leaves memory, one that sends nothing leaves the device page, and one that does
 -- not jump goes on just after itself
@@ -49,12 +50,6 @@ length-is byte = by (returnMode byte)
 
 -- ---- and these are the instructions that may do so
 
-same-bool : (a b : Bool) → T (Bool·beq a b) → a ≡ b
-same-bool true true t = refl
-same-bool true false t = absurd t
-same-bool false true t = absurd t
-same-bool false false t = refl
-
 -- STZ, STR, STA
 abbrev pub storesMemory : ℕ → Bool
 storesMemory byte = oneOf (byte % 32) (0x11 ∷ 0x13 ∷ 0x15 ∷ [])
@@ -68,13 +63,13 @@ abbrev pub mayJump : ℕ → Bool
 mayJump byte = oneOf (byte % 32) (0x0C ∷ 0x0D ∷ 0x0E ∷ []) || oneOf byte (0x20 ∷ 0x40 ∷ 0x60 ∷ [])
 
 pub stores-is : (byte : ℕ) → byte < 256 → ltb 0 (shapeOf byte .stores) ≡ storesMemory byte
-unfolding shapeOf shape size opOf wide
-stores-is byte h = same-bool _ _ (at (λ b. Bool·beq (ltb 0 (shapeOf b .stores)) (storesMemory b)) 256 tt byte h)
+unfolding decoding
+stores-is = every-byte (λ b. ltb 0 (shapeOf b .stores)) storesMemory tt
 
 pub sends-is : (byte : ℕ) → byte < 256 → ltb 0 (shapeOf byte .sends) ≡ storesDevices byte
-unfolding shapeOf shape size opOf wide
-sends-is byte h = same-bool _ _ (at (λ b. Bool·beq (ltb 0 (shapeOf b .sends)) (storesDevices b)) 256 tt byte h)
+unfolding decoding
+sends-is = every-byte (λ b. ltb 0 (shapeOf b .sends)) storesDevices tt
 
 pub jumps-is : (byte : ℕ) → byte < 256 → shapeOf byte .jumps ≡ mayJump byte
-unfolding shapeOf shape size opOf wide
-jumps-is byte h = same-bool _ _ (at (λ b. Bool·beq (shapeOf b .jumps) (mayJump b)) 256 tt byte h)
+unfolding decoding
+jumps-is = every-byte (λ b. shapeOf b .jumps) mayJump tt

@@ -7,12 +7,9 @@ use Prim.Native.Nat.{ℕ, zero, suc, _+_, _-_, _*_, _%_, _≤_, _<_}
 use lib.Dec.{T, eqb, ltb, leb}
 use lib.ListN.{length, getD, set, replicate}
 use Rattle.model.specs.Bytes.{Every, number, oneOf}
+use Rattle.model.specs.Machine.{start}
 use Rattle.model.specs.Instruction.{keepMode, working, returning, takenFrom, pushedOn, lengthOf}
 use Rattle.model.specs.Step.{offset}
-
--- the address at which a program starts
-abbrev pub start : ℕ
-start = 0x0100
 
 -- "above 4,096 bytes" a program is not admitted
 abbrev pub admitMost : ℕ

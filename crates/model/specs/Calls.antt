@@ -6,10 +6,10 @@ use Prim.Native.Nat.{ℕ, zero, suc, _+_, _-_, _*_}
 use lib.Dec.{eqb, ltb, leb}
 use lib.ListN.{length, getD, set, take, drop}
 use Rattle.model.specs.Bytes.{number, readRing, zeros}
-use Rattle.model.specs.Machine.{memorySize, pageSize, stackSize, stack, State}
+use Rattle.model.specs.Machine.{memorySize, pageSize, stackSize, start, stack, State}
 use Rattle.model.specs.Run.{Answer, Reply, reply, stepReply, run}
 use Rattle.model.specs.Run.Answer.{Refused, Loaded, WentOn, Broke, Spent, Ignored, Admitted}
-use Rattle.model.specs.Admission.{start, admitMost, admitted, reached, sheetRecord, sheetOf}
+use Rattle.model.specs.Admission.{admitMost, admitted, reached, sheetRecord, sheetOf}
 
 -- ---- numbered replies
 

@@ -7,10 +7,10 @@ use Prim.Native.Nat.{ℕ, _+_, _*_, _-_}
 use lib.Dec.{eqb}
 use lib.ListN.{length, getD, take, replicate}
 use Rattle.model.specs.Bytes.{number, readRing, zeros}
-use Rattle.model.specs.Machine.{memorySize, pageSize, stackSize, Stack, stack, State}
+use Rattle.model.specs.Machine.{memorySize, pageSize, stackSize, start, Stack, stack, State}
 use Rattle.model.specs.Instruction.{working, returning}
 use Rattle.model.specs.Step.{stackWraps}
-use Rattle.model.specs.Admission.{start, all, ruleTests, sheetRecord}
+use Rattle.model.specs.Admission.{all, ruleTests, sheetRecord}
 use Rattle.model.specs.Run.{Answer, Reply}
 use Rattle.model.specs.Run.Answer.{Refused, Loaded, WentOn, Broke, Spent, Ignored, Admitted}
 use Rattle.model.specs.Calls.{numberOf, frameSize, loadCall, stepCall, runCall, eventCall, frameCall, admitCall}
@@ -198,10 +198,12 @@ numbered =
     ∷ (numberOf (eventCall 15 0 used .answer), 0)
     ∷ (numberOf (eventCall 16 0 used .answer), 6)
     ∷ (numberOf (frameCall (replicate 63 0xAA) 0 used .answer), 7)
+    ∷ (numberOf (frameCall (replicate 65 0x00) 0 used .answer), 7)
     ∷ (numberOf (frameCall (frameOf 62 (replicate 62 0xAA)) 0 used .answer), 0)
     ∷ (numberOf (frameCall (frameOf 63 (replicate 62 0xAA)) 0 used .answer), 8)
     ∷ (numberOf (frameCall (frameOf 0 (0x01 ∷ [])) 0 used .answer), 8)
     ∷ (numberOf (admitCall [] (0x00 ∷ []) .answer), 5)
+    ∷ (numberOf (admitCall (replicate 4096 0x00) [] .answer), 10)
     ∷ (numberOf (admitCall (replicate 4097 0x00) [] .answer), 9)
     ∷ (numberOf (admitCall (0x02 ∷ []) (zeros 5) .answer), 10)
     ∷ (numberOf (admitCall (0x02 ∷ []) (zeros 4) .answer), 11)
