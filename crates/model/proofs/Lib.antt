@@ -4,8 +4,11 @@ pub mod Changes
 pub mod Computing
 pub mod EveryByte
 pub mod Fitting
+pub mod Reached
 pub mod Refusals
+pub mod Rules
 pub mod Runs
 pub mod Stacks
 pub mod Steps
+pub mod Tests
 pub mod Wraps

@@ -5,7 +5,7 @@ use mathlib.Core.Bool.{Bool, true, false, cond, not, _&&_}
 use mathlib.Core.List.{List, [], _∷_, _++_}
 use Prim.Native.Nat.{ℕ, zero, suc, _+_, _-_, _*_, _%_, _≤_, _<_}
 use lib.Dec.{T, eqb, ltb, leb}
-use lib.ListN.{length, getD, set, replicate}
+use lib.ListN.{length, getD, set, replicate, take, drop}
 use Rattle.model.specs.Bytes.{Every, number, oneOf}
 use Rattle.model.specs.Machine.{start}
 use Rattle.model.specs.Instruction.{keepMode, working, returning, takenFrom, pushedOn, lengthOf}
@@ -57,6 +57,10 @@ successors program at w r =
 
 -- ---- the rules, for marks of any kind
 
+-- "each address where it may go on .. is in the program and marked with the depths after it"
+abbrev pub GoesOn : List ℕ → (ℕ → Mark) → ℕ × Mark → Type 0
+GoesOn program marks next = Within program (next .0) × (marks (next .0) ≡ next .1)
+
 -- at an address that is marked with w and r
 pub record Rules (program : List ℕ) (marks : ℕ → Mark) (at w r : ℕ) : Type 0 where
   -- "depths, 0 to 255 each"
@@ -73,8 +77,8 @@ pub record Rules (program : List ℕ) (marks : ℕ → Mark) (at w r : ℕ) : Ty
   -- "and no depth after it is above 255"
   pub workTop : depthAfter working (byteAt program at) w ≤ 255
   pub retTop : depthAfter returning (byteAt program at) r ≤ 255
-  -- "each address where it may go on .. is in the program and marked with the depths after it"
-  pub on : Every (λ next. Within program (next .0) × (marks (next .0) ≡ next .1)) (successors program at w r)
+  -- "each address where it may go on .."
+  pub on : Every (GoesOn program marks) (successors program at w r)
 
 -- "An assignment marks some addresses with depths .. such that"
 pub record Assignment (program : List ℕ) (marks : ℕ → Mark) : Type 0 where
@@ -189,6 +193,33 @@ sheetOf [] bytes = []
 sheetOf (x ∷ xs) [] = []
 sheetOf (x ∷ xs) (byte ∷ bytes) = recordOf x byte ++ sheetOf xs bytes
 
--- byte k of the record of an address: 0 its mark, 1 its working depth, 2 its return depth, 3 its program byte
+-- the record of an address
+abbrev pub recordAt : List ℕ → ℕ → List ℕ
+recordAt sheet at = take sheetRecord (drop (sheetRecord * (at - start)) sheet)
+
+-- byte k of it: 0 its mark, 1 its working depth, 2 its return depth, 3 its program byte
 abbrev pub recordByte : List ℕ → ℕ → ℕ → ℕ
-recordByte sheet at k = getD sheet (sheetRecord * (at - start) + k) 0
+recordByte sheet at k = getD (recordAt sheet at) k 0
+
+-- "an address is marked where its mark there is 1"
+abbrev pub Marked : List ℕ → ℕ → Type 0
+Marked sheet at = (start ≤ at) × (recordByte sheet at 0 ≡ 1)
+
+-- the mark that a record stands for
+abbrev pub markOf : List ℕ → Mark
+markOf entry = cond (eqb (getD entry 0 0) 1) (marked (getD entry 1 0) (getD entry 2 0)) unmarked
+
+-- the marks of a sheet, read from its records
+unfoldable pub markIn : List ℕ → ℕ → Mark
+markIn sheet at = cond (ltb at start) unmarked (markOf (recordAt sheet at))
+
+-- "The sheet written is the smallest one"
+pub record Smallest (program sheet : List ℕ) : Type 0 where
+  -- "one 4-byte record per program byte": mark 0 or 1, depths 0 where it is not marked, and the program byte
+  pub size : length sheet ≡ sheetRecord * length program
+  pub records : (at : ℕ) → Within program at → recordAt sheet at ≡ recordOf (markIn sheet at) (byteAt program at)
+  -- it is an assignment
+  pub assigned : Assignment program (markIn sheet)
+  -- "which every assignment marks with the same depths"
+  pub least : (marks : ℕ → Mark) → Assignment program marks
+      → (at w r : ℕ) → markIn sheet at ≡ marked w r → marks at ≡ marked w r

@@ -7,7 +7,7 @@ use lib.Dec.{eqb, ltb, leb}
 use lib.ListN.{length, getD, set, take, drop}
 use Rattle.model.specs.Bytes.{number, readRing, zeros}
 use Rattle.model.specs.Machine.{memorySize, pageSize, stackSize, start, stack, State}
-use Rattle.model.specs.Run.{Answer, Reply, reply, stepReply, run}
+use Rattle.model.specs.Run.{Answer, Reply, reply, stepReply, run, trace}
 use Rattle.model.specs.Run.Answer.{Refused, Loaded, WentOn, Broke, Spent, Ignored, Admitted}
 use Rattle.model.specs.Admission.{admitMost, admitted, reached, sheetRecord, sheetOf}
 
@@ -157,6 +157,10 @@ withVerdict r = reply (r .answer) (r .steps) (verdictOf (r .answer) (r .state)) 
 
 unfoldable pub frameCall : List ℕ → ℕ → State → Reply
 frameCall frame budget s = unless (refusal (frameRows frame s)) s (withVerdict (run budget (framed frame s)))
+
+-- the states before each step of that call: none if it is refused
+unfoldable pub frameTrace : List ℕ → ℕ → State → List State
+frameTrace frame budget s = elim (refusal (frameRows frame s)) [ zero ↦ trace budget (framed frame s) | suc n ↦ [] ]
 
 -- "0 drops the frame, any other number passes it"
 abbrev pub passed : ℕ → Bool

@@ -1,0 +1,112 @@
+-- Demand 3, in the user's words (quoted), with document 01's "What the inspector signs" (quoted, marked 01).
+-- Assumes nothing.
+use mathlib.Core.Path.{_≡_}
+use mathlib.Core.Bool.{false}
+use mathlib.Core.List.{List, [], _∷_, _++_}
+use Prim.Native.Nat.{ℕ}
+use lib.ListN.{length, take, drop}
+use Rattle.model.specs.Bytes.{Every, Bytes}
+use Rattle.model.specs.Machine.{memorySize, pageSize, stackSize, start, State, state, registers}
+use Rattle.model.specs.Step.{wraps}
+use Rattle.model.specs.Run.Answer.{Loaded, Admitted}
+use Rattle.model.specs.Admission.{Marked, recordByte}
+use Rattle.model.specs.Calls.{loadCall, frameCall, frameTrace, admitCall}
+use Rattle.model.specs.Exactness.{Exact}
+
+-- ---- a call of the list
+
+-- n bytes that are put in
+pub record Filling (n : ℕ) : Type 0 where
+  pub bytes : List ℕ
+  pub size : length bytes ≡ n
+  pub low : Bytes bytes
+
+-- the machine's own buffer of n bytes, or (01) "a buffer of wrong length in place of" it
+pub data Lent (n : ℕ) : Type 0 where
+  own : Lent n
+  other : (bytes : List ℕ) → (length bytes ≡ n → ⊥) → Lent n
+
+pub record Call : Type 0 where
+  -- "whatever bytes are put into zero page, device page and stacks before each call": any, so those too that stand there;
+  -- (01) "Zero page is 0000 to 00FF"
+  pub zeroPage : Filling start
+  pub devicePage : Filling pageSize
+  pub workBytes : Filling stackSize
+  pub retBytes : Filling stackSize
+  -- "refused ones too": (01) "one or more of the four" may be of wrong length
+  pub memory : Lent memorySize
+  pub devices : Lent pageSize
+  pub work : Lent stackSize
+  pub ret : Lent stackSize
+  -- "whatever their records and budgets": bytes of any number, and any budget
+  pub frame : List ℕ
+  pub low : Bytes frame
+  pub budget : ℕ
+
+-- the machine before the call, the bytes put in
+unfoldable pub filled : Call → State → State
+filled c s =
+    state (c .zeroPage .bytes ++ drop start (s .memory)) (c .devicePage .bytes) (c .workBytes .bytes) (c .retBytes .bytes) (registers s)
+
+abbrev pub lent : {n : ℕ} → Lent n → List ℕ → List ℕ
+lent own mine = mine
+lent (other bytes wrong) mine = bytes
+
+-- what the call is lent, the machine being s
+unfoldable pub given : Call → State → State
+given c s =
+    state (lent (c .memory) (s .memory)) (lent (c .devices) (s .devices)) (lent (c .work) (s .work .bytes)) (lent (c .ret) (s .ret .bytes)) (registers s)
+
+abbrev pub back : {n : ℕ} → Lent n → List ℕ → List ℕ → List ℕ
+back own mine left = left
+back (other bytes wrong) mine left = mine
+
+-- the machine after a call that left t: (01) "the machine record that the last one returned and the buffers as that one left
+-- them"; one that was not lent is as it was
+unfoldable pub handedBack : Call → State → State → State
+handedBack c s t =
+    state (back (c .memory) (s .memory) (t .memory)) (back (c .devices) (s .devices) (t .devices)) (back (c .work) (s .work .bytes) (t .work .bytes)) (back (c .ret) (s .ret .bytes) (t .ret .bytes)) (registers t)
+
+-- what the frame call gets, and the machine after it: "otherwise each call gets what the one before it left"
+abbrev pub called : Call → State → State
+called c s = given c (filled c s)
+
+abbrev pub next : Call → State → State
+next c s = handedBack c (filled c s) (frameCall (c .frame) (c .budget) (called c s) .state)
+
+-- ---- what holds
+
+-- "every byte of the filter in memory is the one loaded"
+abbrev pub Intact : List ℕ → State → Type 0
+Intact filter s = take (length filter) (drop start (s .memory)) ≡ filter
+
+-- "Before every step in the list"
+pub record Sound (filter sheet : List ℕ) (s : State) : Type 0 where
+  -- "the program counter is at a marked address"
+  pub marked : Marked sheet (s .pc)
+  -- "and both stack pointers equal the depths on its sheet there"
+  pub work : s .work .pointer ≡ recordByte sheet (s .pc) 1
+  pub ret : s .ret .pointer ≡ recordByte sheet (s .pc) 2
+  -- "No step wraps a stack."
+  pub level : wraps s ≡ false
+  -- "Before every step .. every byte of the filter in memory is the one loaded."
+  pub intact : Intact filter s
+
+-- along the list: before its first call and after every call the filter is intact, and each state before a step is sound
+abbrev pub Safe : (filter sheet : List ℕ) → State → List Call → Type 0
+Safe filter sheet s [] = Intact filter s
+Safe filter sheet s (c ∷ cs) =
+    Intact filter s
+    × Every (Sound filter sheet) (frameTrace (c .frame) (c .budget) (called c s))
+    × Safe filter sheet (next c s) cs
+
+pub record Demand3 : Type 0 where
+  -- "A filter of 1 to 4,096 bytes, given a sheet of the right length, is admitted exactly when depths for its addresses exist
+  -- that obey the admission rules of document 01."
+  pub exact : Exact
+  -- "Load an admitted filter. Then the following holds for every list of frame calls from there": whatever sheet the
+  -- admission was lent and whatever machine the load was given, neither being refused; (01) "The sheet is the one that
+  -- admission wrote for this filter"
+  pub safe : (filter sheet : List ℕ) → Bytes filter → admitCall filter sheet .answer ≡ Admitted
+      → (s : State) → loadCall filter s .answer ≡ Loaded
+      → (calls : List Call) → Safe filter (admitCall filter sheet .sheet) (loadCall filter s .state) calls
