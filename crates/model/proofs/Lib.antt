@@ -3,11 +3,14 @@ pub mod Cases
 pub mod Changes
 pub mod Computing
 pub mod EveryByte
+pub mod Exactness
 pub mod Fitting
+pub mod Numbers
 pub mod Reached
 pub mod Refusals
 pub mod Rules
 pub mod Runs
+pub mod Sheet
 pub mod Stacks
 pub mod Steps
 pub mod Tests
