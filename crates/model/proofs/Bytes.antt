@@ -6,6 +6,7 @@ use native.Mathlib.Nat.{mod-add-mod}
 use native.Mathlib.Omega.{arith}
 use lib.Dec.{lit<}
 use lib.ListN.{length, getD, set, take, drop, length-append, length-set}
+use lib.Seq.{drop-set-lt}
 use Rattle.model.specs.Bytes.{Bytes, word, number, readRing, writeRing}
 
 -- ---- lists of bytes
@@ -68,6 +69,11 @@ number-fits (a ∷ []) l h = omega (arith, h 0)
 number-fits (a ∷ b ∷ []) l h = omega (arith, h 0, h 1)
 number-fits (a ∷ b ∷ c ∷ bs) l h = absurd (omega arith)
 
+pub number-byte : (bs : List ℕ) → Bytes bs → number (take 1 bs) < 256
+unfolding number
+number-byte [] h = lit< tt
+number-byte (b ∷ bs) h = omega (arith, h 0)
+
 -- ---- rings
 
 pub length-read : (m : ℕ) (s : List ℕ) (a n : ℕ) → length (readRing m s a n) ≡ n
@@ -102,3 +108,13 @@ pub ring-bytes : (m : ℕ) (s : List ℕ) (a : ℕ) (bs : List ℕ) → Bytes s 
 unfolding writeRing
 ring-bytes m s a [] t u = t
 ring-bytes m s a (b ∷ bs) t u = ring-bytes m (set s (a % m) b) (a + 1) bs (set-bytes s (a % m) (u 0) t) (tail-bytes bs u)
+
+-- what is written below n leaves the bytes from n on
+pub ring-below : (n m : ℕ) (s : List ℕ) (a : ℕ) (bs : List ℕ) → ((i : ℕ) → i < length bs → (a + i) % m < n)
+    → drop n (writeRing m s a bs) ≡ drop n s
+unfolding writeRing
+ring-below n m s a [] h = refl
+ring-below n m s a (b ∷ bs) h =
+    let z : a + 0 ≡ a = omega arith in
+    ring-below n m (set s (a % m) b) (a + 1) bs (λ i l. let e : a + 1 + i ≡ a + suc i = omega arith in rw e (h (suc i) (omega arith)))
+    ∙ drop-set-lt n s (a % m) b (rw z at (h 0 (omega arith)))

@@ -2,13 +2,18 @@
 use mathlib.Core.Path.{_≡_, refl}
 use mathlib.Core.Bool.{Bool, true, false, _||_}
 use mathlib.Core.List.{List, [], _∷_}
-use Prim.Native.Nat.{ℕ, _+_, _%_, _<_}
+use Prim.Native.Nat.{ℕ, _+_, _*_, _/_, _%_, _<_}
 use lib.Dec.{ltb}
-use lib.ListN.{getD}
-use Rattle.model.specs.Bytes.{oneOf, word, writeRing}
-use Rattle.model.specs.Machine.{State}
+use native.Mathlib.Nat.{mul-mod-right}
+use native.Mathlib.Omega.{arith}
+use lib.ListN.{length, getD, drop}
+use Rattle.model.specs.Bytes.{Bytes, oneOf, word, writeRing}
+use Rattle.model.specs.Machine.{start, State, InRange, operands}
 use Rattle.model.specs.Instruction.{Op, opOf, wide, size, returnMode, keepMode, Shape, shape, shapeOf, rowBy, rowOf, lengthOf}
-use Rattle.model.specs.Step.{Effect, written, applied, exchanged, operated, execute}
+use Rattle.model.specs.Instruction.Op.{STZ}
+use Rattle.model.specs.Step.{Effect, effect, effectOn, written, applied, exchanged, operated, execute}
+use Rattle.model.proofs.Bytes.{length-word, ring-below}
+use Rattle.model.proofs.Stacks.{operand-byte}
 use Rattle.model.proofs.Computing.{decoding}
 use Rattle.model.proofs.EveryByte.{every-byte}
 
@@ -73,3 +78,27 @@ sends-is = every-byte (λ b. ltb 0 (shapeOf b .sends)) storesDevices tt
 pub jumps-is : (byte : ℕ) → byte < 256 → shapeOf byte .jumps ≡ mayJump byte
 unfolding decoding
 jumps-is = every-byte (λ b. shapeOf b .jumps) mayJump tt
+
+-- ---- STZ in 8-bit form stores in the zero page
+
+stz-is : (byte : ℕ) → byte % 64 ≡ 0x11 → (opOf byte ≡ STZ) × (wide byte ≡ false)
+unfolding opOf wide
+stz-is byte e =
+    let f : byte % 32 ≡ 0x11 = omega arith in
+    let h : byte / 32 ≡ 2 * (byte / 64) = omega arith in
+    let g : byte / 32 % 2 ≡ 0 = rw h (mul-mod-right 2 (byte / 64)) in
+    (rw f, rw g)
+
+apply-stz : (keep : Bool) (s : State) → Bytes (s .work .bytes) → drop start (applied STZ false keep s .memory) ≡ drop start (s .memory)
+unfolding applied written effectOn effect shape size
+apply-stz keep s h =
+    let a = operand-byte 1 (s .work) h in
+    ring-below start _ (s .memory) _ _ (λ i l. let k = length-word 1 (getD (operands (1 ∷ 1 ∷ []) (s .work)) 0 0) in omega arith)
+
+pub stz-above : (byte : ℕ) (s : State) → byte % 64 ≡ 0x11 → InRange s → drop start (execute byte s .memory) ≡ drop start (s .memory)
+unfolding execute operated
+stz-above byte s e z = rw (stz-is byte e .0, stz-is byte e .1) (by (returnMode byte))
+  where
+    by : (r : Bool) → drop start (exchanged r (applied STZ false (keepMode byte) (exchanged r s)) .memory) ≡ drop start (s .memory)
+    by false = apply-stz (keepMode byte) s (z .work)
+    by true = apply-stz (keepMode byte) (exchanged true s) (z .ret)

@@ -5,6 +5,7 @@ pub mod Computing
 pub mod EveryByte
 pub mod Exactness
 pub mod Fitting
+pub mod Marked
 pub mod Numbers
 pub mod Reached
 pub mod Refusals
