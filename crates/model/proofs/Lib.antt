@@ -2,9 +2,11 @@ pub mod Bytes
 pub mod Cases
 pub mod Changes
 pub mod Computing
+pub mod Demand3
 pub mod EveryByte
 pub mod Exactness
 pub mod Fitting
+pub mod Lists
 pub mod Marked
 pub mod Numbers
 pub mod Reached
