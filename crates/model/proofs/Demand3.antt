@@ -16,7 +16,7 @@ use Rattle.model.proofs.Changes.{length-is}
 use Rattle.model.proofs.Runs.{trace-keeps}
 use Rattle.model.proofs.Marked.{At, no-wrap, above, goes-on}
 use Rattle.model.proofs.Exactness.{passes, smallest, exact}
-use Rattle.model.proofs.Lists.{next-by, Whole, filled-whole, framed-whole, next-whole, filled-above, framed-above, after-load}
+use Rattle.model.proofs.Lists.{next-by, Whole, filled-whole, framed-whole, next-whole, filled-above, framed-above, framed-starts, after-load}
 
 -- every member of a list has what its having P gives
 every-map : {A : Type 0} {P Q : A → Type 0} → ((x : A) → P x → Q x) → (xs : List A) → Every P xs → Every Q xs
@@ -55,11 +55,11 @@ module _ (filter sheet : List ℕ) (written : Smallest filter sheet) (most : len
 
   -- a frame call starts at 0100, with both depths 0
   starts : (frame : List ℕ) (s : State) → length frame ≡ frameSize → Bytes frame → Whole s → Intact filter s → Here (framed frame s)
-  unfolding framed
   starts frame s l h z i =
+      let e = framed-starts frame s in
       record {
         intact = same-above s (framed frame s) (framed-above frame s l (z .sized)) i;
-        here = written .assigned .first;
+        here = rw (e .0, e .1, e .2) (written .assigned .first);
         range = framed-whole frame s l h z .range;
       }
 

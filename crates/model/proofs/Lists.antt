@@ -168,6 +168,12 @@ framed-above frame s l z =
     ∙ drop-drop k (framePlace + length frame) m
     ∙ ap (λ n. drop n m) j
 
+-- "both pointers become 0, and the program runs from 0100"
+pub framed-starts : (frame : List ℕ) (s : State)
+    → (framed frame s .pc ≡ start) × (framed frame s .work .pointer ≡ 0) × (framed frame s .ret .pointer ≡ 0)
+unfolding framed
+framed-starts frame s = (refl, refl, refl)
+
 load-intact : (program : List ℕ) → Intact program (load program)
 unfolding load
 load-intact program =

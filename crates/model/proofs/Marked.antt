@@ -12,7 +12,7 @@ use lib.Seq.{getD-take, getD-drop}
 use borrow.Author.Tests.{eqb-true, ltb-false}
 use Rattle.model.specs.Bytes.{Bytes, Every, oneOf, number, readRing}
 use Rattle.model.specs.Machine.{memorySize, start, State, InRange, lowered, operands}
-use Rattle.model.specs.Instruction.{opOf, wide, size, returnMode, keepMode, shape, shapeOf, working, returning, takenFrom, pushedOn, lengthOf}
+use Rattle.model.specs.Instruction.{opOf, wide, size, returnMode, keepMode, shape, shapeOf, rowOf, working, returning, takenFrom, pushedOn, lengthOf}
 use Rattle.model.specs.Step.{offset, effect, effectOn, applied, operated, execute, fetched, step, breaks, popWraps, pushWraps, stackWraps, wraps}
 use Rattle.model.specs.Admission.{admitMost, Mark, byteAt, Within, allowed, depthAfter, markAfter, successors, GoesOn, Rules, Assignment}
 use Rattle.model.specs.Admission.Mark.{unmarked, marked}
@@ -63,14 +63,18 @@ level true n m p h l = omega arith
 level false n m p h l = omega arith
 
 lowered-level : (keep : Bool) (n p : ℕ) → n ≤ p → p ≤ 255 → lowered keep n p ≡ p - cond keep 0 n
-lowered-level true n p h l = lowered-is true n p (omega arith) ∙ omega arith
-lowered-level false n p h l = lowered-is false n p (omega arith) ∙ omega arith
+lowered-level keep n p h l = lowered-is keep n p (omega arith) ∙ omega (arith, level keep n 0 p h (omega arith))
 
+-- the pointer after an instruction is the depth after it
+moved-level : (k byte p : ℕ) → takenFrom k byte ≤ p → depthAfter k byte p ≤ 255 → moved k (keepMode byte) (rowOf byte) p ≡ depthAfter k byte p
+moved-level k byte p h l = omega (arith, level (keepMode byte) (takenFrom k byte) (pushedOn k byte) p h (omega arith))
+
+-- and it wraps no stack
 stack-level : (k byte p : ℕ) → p ≤ 255 → takenFrom k byte ≤ p → depthAfter k byte p ≤ 255 → stackWraps k byte p ≡ false
 unfolding stackWraps
 stack-level k byte p low h l =
     rw (pop-level (takenFrom k byte) p (omega arith) h, lowered-level (keepMode byte) (takenFrom k byte) p h low)
-    (push-level (pushedOn k byte) _ l)
+    (push-level (pushedOn k byte) _ (omega arith))
 
 -- ---- one step
 
@@ -117,8 +121,8 @@ module _ (program : List ℕ) (marks : ℕ → Mark) (assigned : Assignment prog
   pub no-wrap : wraps s ≡ false
   unfolding wraps
   no-wrap =
-      rw (fetched-is, stack-level working byte (s .work .pointer) (rule .workLow) (rule .work) (rule .workTop))
-      (stack-level returning byte (s .ret .pointer) (rule .retLow) (rule .ret) (rule .retTop))
+      rw (fetched-is, stack-level working byte (s .work .pointer) (rule .workLow) (omega (arith, rule .work)) (rule .workTop))
+      (stack-level returning byte (s .ret .pointer) (rule .retLow) (omega (arith, rule .ret)) (rule .retTop))
 
   pub above : drop start (step s .memory) ≡ drop start (s .memory)
   unfolding step
@@ -128,7 +132,9 @@ module _ (program : List ℕ) (marks : ℕ → Mark) (assigned : Assignment prog
   pointers : marked (execute byte s .work .pointer) (execute byte s .ret .pointer) ≡ markAfter byte (s .work .pointer) (s .ret .pointer)
   pointers =
       let m = execute-moved byte s (at .range) in
-      rw (m .work ∙ level (keepMode byte) (takenFrom working byte) (pushedOn working byte) (s .work .pointer) (rule .work) (rule .workTop), m .ret ∙ level (keepMode byte) (takenFrom returning byte) (pushedOn returning byte) (s .ret .pointer) (rule .ret) (rule .retTop))
+      let w = m .work ∙ moved-level working byte (s .work .pointer) (omega (arith, rule .work)) (rule .workTop) in
+      let r = m .ret ∙ moved-level returning byte (s .ret .pointer) (omega (arith, rule .ret)) (rule .retTop) in
+      rw (w, r)
 
   abbrev mark : Mark
   mark = markAfter byte (s .work .pointer) (s .ret .pointer)

@@ -14,7 +14,7 @@ use Rattle.model.specs.Instruction.{working, returning, takenFrom, lengt
 use Rattle.model.specs.Step.{offset}
 use Rattle.model.specs.Admission.{Mark, byteAt, Within, allowed, depthAfter, markAfter, successors, GoesOn, Rules, Assignment, markAt, sameMark, all, ruleTests, goesOn, fits, fitsFrom, assigns}
 use Rattle.model.specs.Admission.Mark.{unmarked, marked}
-use Rattle.model.proofs.Tests.{and-left, and-right, and-both, one-of}
+use Rattle.model.proofs.Tests.{and-left, and-right, and-both, one-of, all-of}
 
 -- ---- marks
 
@@ -153,15 +153,16 @@ assigns-is program marks t =
 pub rules-test : (program : List ℕ) (marks : ℕ → Mark) (at w r : ℕ) → Rules program marks at w r → T (all (ruleTests program at w r))
 unfolding ruleTests
 rules-test program marks at w r q =
-    let byte = byteAt program at in
-    and-both (leb w 255) _ (le→leb _ _ (q .workLow))
-    (and-both (leb r 255) _ (le→leb _ _ (q .retLow))
-    (and-both (leb (at + lengthOf byte) (start + length program)) _ (le→leb _ _ (q .inside))
-    (and-both (allowed byte) _ (q .fine)
-    (and-both (leb (takenFrom working byte) w) _ (le→leb _ _ (q .work))
-    (and-both (leb (takenFrom returning byte) r) _ (le→leb _ _ (q .ret))
-    (and-both (leb (depthAfter working byte w) 255) _ (le→leb _ _ (q .workTop))
-    (and-both (leb (depthAfter returning byte r) 255) true (le→leb _ _ (q .retTop)) tt)))))))
+    all-of (ruleTests program at w r) (
+      le→leb _ _ (q .workLow),
+      (le→leb _ _ (q .retLow),
+      (le→leb _ _ (q .inside),
+      (q .fine,
+      (le→leb _ _ (q .work),
+      (le→leb _ _ (q .ret),
+      (le→leb _ _ (q .workTop),
+      (le→leb _ _ (q .retTop), tt)))))))
+    )
 
 pub every-fits : (program : List ℕ) (marks : List Mark) (at : ℕ) (xs : List Mark)
     → ((i : ℕ) → T (fits program marks (at + i) (getD xs i unmarked))) → T (fitsFrom program marks at xs)

@@ -1,0 +1,111 @@
+-- Demand 3 at one filter and one list of calls: its hypotheses can be met, and its calls are run and refused as they should be.
+-- Assumes nothing.
+use mathlib.Core.Path.{_≡_, refl}
+use mathlib.Core.Bool.{Bool, true, _&&_}
+use mathlib.Core.List.{List, [], _∷_, _++_}
+use Prim.Native.Nat.{ℕ, zero, suc, _+_, _*_, _-_}
+use lib.Dec.{T, ltb, ltb→lt}
+use lib.ListN.{length, replicate, length-replicate}
+use borrow.Author.Tests.{eqb-false}
+use Rattle.model.specs.Bytes.{Bytes, zeros}
+use Rattle.model.specs.Machine.{memorySize, pageSize, stackSize, start, State}
+use Rattle.model.specs.Run.Answer.{Loaded, Admitted}
+use Rattle.model.specs.Admission.{sheetRecord}
+use Rattle.model.specs.Calls.{numberOf, frameSize, load, loadCall, frameCall, admitCall}
+use Rattle.model.specs.Cases.{used, answerCode, frameOf}
+use Rattle.model.specs.Demand3.{Filling, Lent, Call, filled, given, handedBack, called, next, Safe}
+use Rattle.model.specs.Demand3.Lent.{own, other}
+use Rattle.model.proofs.Bytes.{nil-bytes, cons-bytes}
+use Rattle.model.proofs.Tests.{and-left, and-right}
+use Rattle.model.proofs.Computing.{calling}
+use Rattle.model.proofs.Demand3.{demand3}
+
+-- A filter that passes the frames whose data bytes have a checksum of 0: from the last data byte to the first it takes each
+-- into an exclusive or, on the return stack
+unfoldable pub filter : List ℕ
+filter =
+    0xC0 ∷ 0x00 ∷ 0x80 ∷ 0x80 ∷ 0x10  -- 0100 LITr 00, LIT 80, LDZ: the checksum is 0, and L bytes are left
+    ∷ 0x06 ∷ 0x20 ∷ 0x00 ∷ 0x04  -- 0105 DUP, JCI 010D: if none is left
+    ∷ 0x02 ∷ 0x40 ∷ 0x00 ∷ 0x0D  -- 0109 POP, JMI 011A
+    ∷ 0x06 ∷ 0x80 ∷ 0x81 ∷ 0x18 ∷ 0x10 ∷ 0x0F ∷ 0x5E  -- 010D DUP, LIT 81, ADD, LDZ, STH, EORr: else the last of these
+    ∷ 0x80 ∷ 0x01 ∷ 0x19 ∷ 0x40 ∷ 0xFF ∷ 0xEB  -- 0114 LIT 01, SUB, JMI 0105: one less is left
+    ∷ 0x4F ∷ 0x80 ∷ 0x00 ∷ 0x08 ∷ 0x80 ∷ 0xF2 ∷ 0x17 ∷ 0x00  -- 011A STHr, LIT 00, EQU, LIT F2, DEO, BRK: the verdict
+    ∷ []
+
+-- ---- bytes
+
+abbrev allBytes : List ℕ → Bool
+allBytes [] = true
+allBytes (b ∷ bs) = ltb b 256 && allBytes bs
+
+all-bytes : (bs : List ℕ) → T (allBytes bs) → Bytes bs
+all-bytes [] t = nil-bytes
+all-bytes (b ∷ bs) t =
+    cons-bytes bs (ltb→lt b 256 (and-left (ltb b 256) (allBytes bs) t)) (all-bytes bs (and-right (ltb b 256) (allBytes bs) t))
+
+filter-bytes : Bytes filter
+unfolding filter
+filter-bytes = all-bytes filter tt
+
+-- ---- calls
+
+filling : Filling 256
+filling = record { bytes = replicate 256 0xA5; size = refl; low = all-bytes (replicate 256 0xA5) tt }
+
+-- the lent buffers, the frame and the budget
+abbrev call : Lent memorySize → Lent pageSize → Lent stackSize → Lent stackSize → (frame : List ℕ) → T (allBytes frame) → ℕ → Call
+call memory devices work ret frame t budget =
+    record {
+      zeroPage = filling;
+      devicePage = filling;
+      workBytes = filling;
+      retBytes = filling;
+      memory = memory;
+      devices = devices;
+      work = work;
+      ret = ret;
+      frame = frame;
+      low = all-bytes frame t;
+      budget = budget;
+    }
+
+-- empty, in place of a buffer of 256 bytes
+abbrev none : Lent 256
+none = other [] (eqb-false 0 256 refl)
+
+pub calls : List Call
+calls =
+    call own own own own (frameOf 3 (0x05 ∷ 0x0C ∷ 0x09 ∷ [])) tt 100  -- checksum 0
+    ∷ call own own own own (63 ∷ zeros 63) tt 100  -- L above 62
+    ∷ call own own own own (zeros 63) tt 100  -- a record of 63 bytes
+    ∷ call (other (zeros 65535) (eqb-false 65535 65536 refl)) own own own (frameOf 0 []) tt 100  -- a memory of 65,535 bytes
+    ∷ call own none own none (frameOf 0 []) tt 100  -- no device page and no return stack
+    ∷ call own own own own (frameOf 0 []) tt 0  -- budget 0
+    ∷ call own own own own (frameOf 2 (0x05 ∷ 0x06 ∷ [])) tt 20  -- a budget that ends in the loop
+    ∷ call own own own own (frameOf 2 (0x05 ∷ 0x06 ∷ [])) tt 100  -- checksum 3
+    ∷ []
+
+admits : admitCall filter (zeros (sheetRecord * 34)) .answer ≡ Admitted
+unfolding filter calling
+admits = refl
+
+loads : loadCall filter used .answer ≡ Loaded
+unfolding filter used calling
+loads = refl
+
+-- the theorem, here
+pub instance : Safe filter (admitCall filter (zeros (sheetRecord * 34)) .sheet) (loadCall filter used .state) calls
+instance = demand3 .safe filter (zeros (sheetRecord * 34)) filter-bytes admits used loads calls
+
+-- ---- what these calls reply: number, steps and verdict of each
+
+abbrev pub replies : State → List Call → List (ℕ × ℕ × ℕ)
+replies s [] = []
+replies s (c ∷ cs) =
+    let r = frameCall (c .frame) (c .budget) (called c s) in
+    (numberOf (r .answer), r .steps, r .verdict) ∷ replies (next c s) cs
+
+pub answers : replies (loadCall filter used .state) calls
+    ≡ (0, 46, 1) ∷ (8, 0, 0) ∷ (7, 0, 0) ∷ (1, 0, 0) ∷ (2, 0, 0) ∷ (0, 0, 0) ∷ (0, 20, 0) ∷ (0, 35, 0) ∷ []
+unfolding calls filling filter used filled given handedBack calling
+answers = refl
