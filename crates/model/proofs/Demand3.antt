@@ -1,14 +1,14 @@
 -- Demand 3. Assumes nothing.
-use mathlib.Core.Path.{_≡_, refl, sym, ap, _∙_}
+use mathlib.Core.Path.{_≡_, sym, ap, _∙_}
 use mathlib.Core.List.{List, [], _∷_}
-use Prim.Native.Nat.{ℕ, _+_, _≤_}
+use Prim.Native.Nat.{ℕ, _≤_}
 use native.Mathlib.Omega.{arith}
 use lib.ListN.{length, getD, take, drop}
 use Rattle.model.specs.Bytes.{Bytes, Every}
 use Rattle.model.specs.Machine.{start, State}
 use Rattle.model.specs.Step.{step}
 use Rattle.model.specs.Run.{run, trace}
-use Rattle.model.specs.Admission.{admitMost, Mark, byteAt, Within, recordOf, recordAt, markIn, Smallest}
+use Rattle.model.specs.Admission.{admitMost, byteAt, Within, recordOf, markIn, Smallest}
 use Rattle.model.specs.Admission.Mark.{marked}
 use Rattle.model.specs.Calls.{frameSize, framed, frameTrace, loadCall, admitCall}
 use Rattle.model.specs.Demand3.{Call, filled, called, next, Intact, Sound, Safe, Demand3}

@@ -2,14 +2,14 @@
 use mathlib.Core.Path.{_≡_, refl, sym, ap, _∙_}
 use mathlib.Core.Bool.{Bool, true, false, not, true≢false}
 use mathlib.Core.List.{List, [], _∷_}
-use Prim.Native.Nat.{ℕ, zero, suc, _*_, _≤_, _<_}
+use Prim.Native.Nat.{ℕ, zero, suc, _≤_}
 use native.Mathlib.Omega.{arith}
-use lib.Dec.{T, eqb, ltb, not-T}
+use lib.Dec.{T, eqb, not-T}
 use lib.ListN.{length}
 use borrow.Author.Tests.{eq-eqb, ne-eqb, ltb-false, lt-ltb, le-ltb}
 use Rattle.model.specs.Run.Answer.{Admitted}
-use Rattle.model.specs.Admission.{admitMost, Assignable, markAt, reached, admitted, sheetRecord, sheetOf, markIn, Smallest}
-use Rattle.model.specs.Calls.{Row, refusal, hasLength, admitRows, admitBy, admitCall}
+use Rattle.model.specs.Admission.{admitMost, markAt, reached, admitted, sheetOf, markIn, Smallest}
+use Rattle.model.specs.Calls.{refusal, admitRows, admitBy, admitCall}
 use Rattle.model.specs.Exactness.{Proper, Exact}
 use Rattle.model.proofs.Tests.{is-true}
 use Rattle.model.proofs.Rules.{length-assigns, assigns-is}
@@ -79,10 +79,10 @@ unfolding admitBy admitRows
 exact =
     record {
       admitted = λ program sheet h. (
-          λ t. admitted-exactly program .0 (passes program sheet t .fine),
-          λ a.
-              let e = is-true (admitted program) (admitted-exactly program .1 a) in
-              rw (numbered program sheet (proper-number program sheet h ∙ passed-over 11 _ [] (ap not e) ∙ no-rows))
+        λ t. admitted-exactly program .0 (passes program sheet t .fine),
+        λ a.
+            let e = is-true (admitted program) (admitted-exactly program .1 a) in
+            rw (numbered program sheet (proper-number program sheet h ∙ passed-over 11 _ [] (ap not e) ∙ no-rows)),
       );
       written = λ program sheet t. smallest program sheet (passes program sheet t);
       none = λ program sheet h none.

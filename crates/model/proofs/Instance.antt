@@ -2,17 +2,17 @@
 -- Assumes nothing.
 use mathlib.Core.Path.{_≡_, refl}
 use mathlib.Core.Bool.{Bool, true, _&&_}
-use mathlib.Core.List.{List, [], _∷_, _++_}
-use Prim.Native.Nat.{ℕ, zero, suc, _+_, _*_, _-_}
+use mathlib.Core.List.{List, [], _∷_}
+use Prim.Native.Nat.{ℕ, _*_, _-_}
 use lib.Dec.{T, ltb, ltb→lt}
-use lib.ListN.{length, replicate, length-replicate}
+use lib.ListN.{replicate}
 use borrow.Author.Tests.{eqb-false}
 use Rattle.model.specs.Bytes.{Bytes, zeros}
-use Rattle.model.specs.Machine.{memorySize, pageSize, stackSize, start, State}
+use Rattle.model.specs.Machine.{memorySize, pageSize, stackSize, State}
 use Rattle.model.specs.Run.Answer.{Loaded, Admitted}
 use Rattle.model.specs.Admission.{sheetRecord}
-use Rattle.model.specs.Calls.{numberOf, frameSize, load, loadCall, frameCall, admitCall}
-use Rattle.model.specs.Cases.{used, answerCode, frameOf}
+use Rattle.model.specs.Calls.{numberOf, loadCall, frameCall, admitCall}
+use Rattle.model.specs.Cases.{used, frameOf}
 use Rattle.model.specs.Demand3.{Filling, Lent, Call, filled, given, handedBack, called, next, Safe}
 use Rattle.model.specs.Demand3.Lent.{own, other}
 use Rattle.model.proofs.Bytes.{nil-bytes, cons-bytes}

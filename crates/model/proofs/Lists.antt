@@ -1,17 +1,17 @@
 -- The machine along a list of frame calls, whatever program was loaded. Assumes nothing.
-use mathlib.Core.Path.{_≡_, refl, sym, ap, _∙_}
+use mathlib.Core.Path.{_≡_, refl, ap, _∙_}
 use mathlib.Core.List.{List, [], _∷_, _++_}
 use Prim.Native.Nat.{ℕ, zero, suc, _+_, _-_, _≤_, _<_}
 use native.Mathlib.Omega.{arith}
 use lib.Dec.{lit<}
-use lib.ListN.{length, take, drop, set, length-append, length-set, length-drop, length-replicate}
+use lib.ListN.{length, take, drop, take-append-drop, length-append, length-set, length-drop, length-replicate}
 use lib.Seq.{length-take-le, drop-append-add, drop-append-le, drop-at, take-append-seam, drop-drop}
 use Rattle.model.specs.Bytes.{Bytes, Every, zeros}
-use Rattle.model.specs.Machine.{pageSize, stackSize, start, State, state, registers, Sized, InRange}
+use Rattle.model.specs.Machine.{pageSize, stackSize, start, State, state, Sized, InRange}
 use Rattle.model.specs.Run.{run, trace}
 use Rattle.model.specs.Run.Answer.{Loaded}
-use Rattle.model.specs.Calls.{refusal, loadMost, load, loadCall, frameSize, framePlace, frameRows, framed, frameCall, frameTrace}
-use Rattle.model.specs.Demand3.{Filling, Lent, Call, filled, lent, given, back, handedBack, called, next, Intact}
+use Rattle.model.specs.Calls.{refusal, loadMost, load, loadCall, frameSize, framePlace, frameRows, framed, frameTrace}
+use Rattle.model.specs.Demand3.{Lent, Call, filled, lent, given, back, handedBack, called, next, Intact}
 use Rattle.model.specs.Demand3.Lent.{own, other}
 use Rattle.model.proofs.Bytes.{zeros-bytes, append-bytes, take-bytes, drop-bytes, set-bytes}
 use Rattle.model.proofs.Runs.{run-sized, run-range}
@@ -52,7 +52,7 @@ back-as-found c s =
 pub next-by : (P : List State → State → Type 0) (c : Call) (s : State)
     → P [] (filled c s)
     → (Sized (filled c s) → length (c .frame) ≡ frameSize
-        → P (trace (c .budget) (framed (c .frame) (filled c s))) (run (c .budget) (framed (c .frame) (filled c s)) .state))
+    → P (trace (c .budget) (framed (c .frame) (filled c s))) (run (c .budget) (framed (c .frame) (filled c s)) .state))
     → P (frameTrace (c .frame) (c .budget) (called c s)) (next c s)
 next-by P c s refused ran = by (refusal (frameRows (c .frame) g)) refl
   where
@@ -144,8 +144,8 @@ pub next-whole : (c : Call) (s : State) → Whole s → Whole (next c s)
 next-whole c s z =
     let y = filled-whole c s z in
     next-by (λ t m. Whole m) c s y (λ right l.
-        let x = framed-whole (c .frame) (filled c s) l (c .low) y in
-        record { sized = run-sized (c .budget) _ (x .sized); range = run-range (c .budget) _ (x .range) })
+    let x = framed-whole (c .frame) (filled c s) l (c .low) y in
+    record { sized = run-sized (c .budget) _ (x .sized); range = run-range (c .budget) _ (x .range) })
 
 -- ---- memory from 0100 on
 
@@ -181,6 +181,33 @@ load-intact program =
     let l : start ≤ length (zeros start ++ program) = simp (length-append, length-replicate) (omega arith) in
     ap (take (length program)) (drop-append-le start (zeros start ++ program) rest l ∙ ap (λ b. b ++ rest) (drop-at (zeros start) program start refl))
     ∙ take-append-seam program rest
+
+-- ---- nothing need be put in
+
+-- the call, with the bytes put in that stand there already
+abbrev pub untouched : (s : State) → Whole s → Call → Call
+untouched s z c =
+    record {
+      zeroPage = record {
+        bytes = take start (s .memory);
+        size = length-take-le start (s .memory) (omega (arith, z .sized .memory));
+        low = take-bytes start (s .memory) (z .range .memory);
+      };
+      devicePage = record { bytes = s .devices; size = z .sized .devices; low = z .range .devices };
+      workBytes = record { bytes = s .work .bytes; size = z .sized .work; low = z .range .work };
+      retBytes = record { bytes = s .ret .bytes; size = z .sized .ret; low = z .range .ret };
+      memory = c .memory;
+      devices = c .devices;
+      work = c .work;
+      ret = c .ret;
+      frame = c .frame;
+      low = c .low;
+      budget = c .budget;
+    }
+
+pub untouched-same : (s : State) (z : Whole s) (c : Call) → filled (untouched s z c) s ≡ s
+unfolding filled
+untouched-same s z c = rw (take-append-drop start (s .memory))
 
 -- ---- along a list
 

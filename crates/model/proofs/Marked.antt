@@ -1,9 +1,9 @@
 -- A step from a marked address of an assignment: it goes on to a marked address, with the depths of its mark, wraps no stack
 -- and leaves memory from 0100 on. Assumes nothing.
 use mathlib.Core.Path.{_≡_, refl, sym, ap, _∙_}
-use mathlib.Core.Bool.{Bool, true, false, cond, _&&_, _||_}
+use mathlib.Core.Bool.{Bool, true, false, cond, _&&_}
 use mathlib.Core.List.{List, [], _∷_}
-use Prim.Native.Nat.{ℕ, zero, suc, _+_, _-_, _*_, _%_, _≤_, _<_}
+use Prim.Native.Nat.{ℕ, zero, _+_, _-_, _*_, _%_, _≤_, _<_}
 use native.Mathlib.Nat.{mod-eq-of-lt}
 use native.Mathlib.Omega.{arith}
 use lib.Dec.{T, eqb, ltb}
@@ -12,17 +12,16 @@ use lib.Seq.{getD-take, getD-drop}
 use borrow.Author.Tests.{eqb-true, ltb-false}
 use Rattle.model.specs.Bytes.{Bytes, Every, oneOf, number, readRing}
 use Rattle.model.specs.Machine.{memorySize, start, State, InRange, lowered, operands}
-use Rattle.model.specs.Instruction.{opOf, wide, size, returnMode, keepMode, shape, shapeOf, rowOf, working, returning, takenFrom, pushedOn, lengthOf}
-use Rattle.model.specs.Step.{offset, effect, effectOn, applied, operated, execute, fetched, step, breaks, popWraps, pushWraps, stackWraps, wraps}
+use Rattle.model.specs.Instruction.{keepMode, shapeOf, rowOf, working, returning, takenFrom, pushedOn, lengthOf}
+use Rattle.model.specs.Step.{offset, effect, effectOn, applied, operated, execute, fetched, step, breaks, stackWraps, wraps}
 use Rattle.model.specs.Admission.{admitMost, Mark, byteAt, Within, allowed, depthAfter, markAfter, successors, GoesOn, Rules, Assignment}
-use Rattle.model.specs.Admission.Mark.{unmarked, marked}
+use Rattle.model.specs.Admission.Mark.{marked}
 use Rattle.model.specs.Demand3.{Intact}
 use Rattle.model.proofs.Stacks.{lowered-is}
 use Rattle.model.proofs.Steps.{step-range, moved, execute-moved}
 use Rattle.model.proofs.Changes.{execute-kept, length-is, stz-above}
 use Rattle.model.proofs.Computing.{decoding}
 use Rattle.model.proofs.EveryByte.{every-byte}
-use Rattle.model.proofs.Tests.{is-true}
 use Rattle.model.proofs.Wraps.{pop-level, push-level}
 
 -- ---- what the allowed instructions may do

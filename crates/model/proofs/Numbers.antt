@@ -1,13 +1,13 @@
 -- When a call is refused, and what a call that is not refused knows of its arguments. Assumes nothing.
-use mathlib.Core.Path.{_≡_, refl, sym, ap, _∙_}
-use mathlib.Core.Bool.{Bool, true, false, cond, not, _||_, true≢false}
+use mathlib.Core.Path.{_≡_, refl, ap, _∙_}
+use mathlib.Core.Bool.{Bool, true, false, not, _||_, true≢false}
 use mathlib.Core.List.{List, [], _∷_, _++_}
-use Prim.Native.Nat.{ℕ, zero, suc, _≤_, _<_}
+use Prim.Native.Nat.{ℕ, zero, suc, _≤_}
 use native.Mathlib.Omega.{arith}
-use lib.Dec.{T, eqb, ltb}
+use lib.Dec.{eqb}
 use lib.ListN.{length}
-use borrow.Author.Tests.{eqb-true, eq-eqb, ne-eqb, ltb-false, lt-ltb, le-ltb, not-false}
-use Rattle.model.specs.Machine.{memorySize, pageSize, stackSize, State, Sized}
+use borrow.Author.Tests.{eqb-true, eq-eqb, ltb-false, not-false}
+use Rattle.model.specs.Machine.{State, Sized}
 use Rattle.model.specs.Run.{Reply, run, trace}
 use Rattle.model.specs.Run.Answer.{Loaded}
 use Rattle.model.specs.Calls.{Row, refusal, bufferRows, unless, loadMost, loadRows, load, loadCall, frameSize, frameMost, wellFormed, frameRows, framed, withVerdict, frameCall, frameTrace}

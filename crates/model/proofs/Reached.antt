@@ -12,7 +12,7 @@ use lib.Seq.{getD-set-same}
 use borrow.Author.Tests.{le-ltb}
 use Rattle.model.specs.Bytes.{Every}
 use Rattle.model.specs.Machine.{start}
-use Rattle.model.specs.Admission.{Mark, byteAt, Within, successors, GoesOn, Rules, Assignment, Assignable, markAt, sameMark, all, ruleTests, goesOn, fits, fitsFrom, assigns, keepMark, markOne, markEach, follow, sweep, sweeps, reached, admitted}
+use Rattle.model.specs.Admission.{Mark, byteAt, successors, GoesOn, Assignment, Assignable, markAt, sameMark, all, ruleTests, goesOn, fits, fitsFrom, assigns, keepMark, markOne, markEach, follow, sweep, sweeps, reached, admitted}
 use Rattle.model.specs.Admission.Mark.{unmarked, marked}
 use Rattle.model.proofs.Changes.{length-is}
 use Rattle.model.proofs.Tests.{and-both}
@@ -320,9 +320,9 @@ module _ (program : List ℕ) (f : ℕ → Mark) (assigned : Assignment program 
       and-both (a && b) (fitsFrom program x start x)
       (and-both a b (rw (length-reached program) (eqb-refl (length program))) (rw reached-first tt))
       (every-fits program x start x (λ i.
-          let j : start + i - start ≡ i = omega arith in
-          let e : markAt x (start + i) ≡ getD x i unmarked = rw (le-ltb (start + i) start (omega arith), j) in
-          reached-fits (start + i) _ e))
+      let j : start + i - start ≡ i = omega arith in
+      let e : markAt x (start + i) ≡ getD x i unmarked = rw (le-ltb (start + i) start (omega arith), j) in
+      reached-fits (start + i) _ e))
 
 -- "Admitted exactly if an assignment exists."
 pub admitted-exactly : (program : List ℕ) → T (admitted program) ↔ Assignable program

@@ -5,16 +5,14 @@ use mathlib.Core.List.{List, [], _∷_}
 use Prim.Native.Nat.{ℕ, zero, suc, _+_, _-_, _≤_, _<_}
 use native.Mathlib.Nat.{add-zero}
 use native.Mathlib.Omega.{arith}
-use lib.Dec.{T, eqb, leb, ltb, eqb→eq, eqb-refl, leb→le, le→leb}
+use lib.Dec.{T, eqb, ltb, eqb→eq, eqb-refl, leb→le}
 use lib.ListN.{length, getD}
-use borrow.Author.Tests.{ltb-false}
-use Rattle.model.specs.Bytes.{Every, number}
+use borrow.Author.Tests.{ltb-false, le-leb}
+use Rattle.model.specs.Bytes.{Every}
 use Rattle.model.specs.Machine.{start}
-use Rattle.model.specs.Instruction.{working, returning, takenFrom, lengthOf}
-use Rattle.model.specs.Step.{offset}
-use Rattle.model.specs.Admission.{Mark, byteAt, Within, allowed, depthAfter, markAfter, successors, GoesOn, Rules, Assignment, markAt, sameMark, all, ruleTests, goesOn, fits, fitsFrom, assigns}
+use Rattle.model.specs.Admission.{Mark, byteAt, Within, allowed, markAfter, successors, GoesOn, Rules, Assignment, markAt, sameMark, all, ruleTests, goesOn, fits, fitsFrom, assigns}
 use Rattle.model.specs.Admission.Mark.{unmarked, marked}
-use Rattle.model.proofs.Tests.{and-left, and-right, and-both, one-of, all-of}
+use Rattle.model.proofs.Tests.{and-left, and-right, and-both, is-true, one-of}
 
 -- ---- marks
 
@@ -153,16 +151,9 @@ assigns-is program marks t =
 pub rules-test : (program : List ℕ) (marks : ℕ → Mark) (at w r : ℕ) → Rules program marks at w r → T (all (ruleTests program at w r))
 unfolding ruleTests
 rules-test program marks at w r q =
-    all-of (ruleTests program at w r) (
-      le→leb _ _ (q .workLow),
-      (le→leb _ _ (q .retLow),
-      (le→leb _ _ (q .inside),
-      (q .fine,
-      (le→leb _ _ (q .work),
-      (le→leb _ _ (q .ret),
-      (le→leb _ _ (q .workTop),
-      (le→leb _ _ (q .retTop), tt)))))))
-    )
+    let fine = is-true (allowed (byteAt program at)) (q .fine) in
+    rw (le-leb _ _ (q .workLow), le-leb _ _ (q .retLow), le-leb _ _ (q .inside), fine)
+    (rw (le-leb _ _ (q .work), le-leb _ _ (q .ret), le-leb _ _ (q .workTop), le-leb _ _ (q .retTop)) tt)
 
 pub every-fits : (program : List ℕ) (marks : List Mark) (at : ℕ) (xs : List Mark)
     → ((i : ℕ) → T (fits program marks (at + i) (getD xs i unmarked))) → T (fitsFrom program marks at xs)

@@ -5,7 +5,6 @@ use mathlib.Core.List.{List, [], _∷_}
 use Prim.Native.Nat.{ℕ, zero, suc}
 use lib.Dec.{T}
 use lib.ListN.{getD}
-use Rattle.model.specs.Bytes.{Every}
 use Rattle.model.specs.Admission.{all}
 
 pub and-left : (a b : Bool) → T (a && b) → T a
@@ -29,8 +28,3 @@ pub one-of : (tests : List Bool) (i : ℕ) → T (all tests) → T (getD tests i
 one-of [] i t = tt
 one-of (b ∷ bs) zero t = and-left b (all bs) t
 one-of (b ∷ bs) (suc i) t = one-of bs i (and-right b (all bs) t)
-
--- all of them, from each
-pub all-of : (tests : List Bool) → Every T tests → T (all tests)
-all-of [] t = tt
-all-of (b ∷ bs) t = and-both b (all bs) (t .0) (all-of bs (t .1))

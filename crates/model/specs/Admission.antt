@@ -172,7 +172,7 @@ sweeps program (suc n) marks = sweeps program n (sweep program (length program) 
 unfoldable pub reached : List ℕ → List Mark
 reached program = sweeps program (length program) (set (replicate (length program) unmarked) 0 (marked 0 0))
 
--- what is reached is an assignment
+-- what is reached is an assignment: exactly if there is one (`Exact`)
 unfoldable pub admitted : List ℕ → Bool
 admitted program = assigns program (reached program)
 

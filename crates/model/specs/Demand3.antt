@@ -15,13 +15,13 @@ use Rattle.model.specs.Exactness.{Exact}
 
 -- ---- a call of the list
 
--- n bytes that are put in
+-- n bytes
 pub record Filling (n : ℕ) : Type 0 where
   pub bytes : List ℕ
   pub size : length bytes ≡ n
   pub low : Bytes bytes
 
--- the machine's own buffer of n bytes, or (01) "a buffer of wrong length in place of" it
+-- the machine's own buffer of n bytes, or in its place another one, of wrong length
 pub data Lent (n : ℕ) : Type 0 where
   own : Lent n
   other : (bytes : List ℕ) → (length bytes ≡ n → ⊥) → Lent n
@@ -33,12 +33,12 @@ pub record Call : Type 0 where
   pub devicePage : Filling pageSize
   pub workBytes : Filling stackSize
   pub retBytes : Filling stackSize
-  -- "refused ones too": (01) "one or more of the four" may be of wrong length
+  -- "refused ones too": (01) "a buffer of wrong length in place of one or more of the four"
   pub memory : Lent memorySize
   pub devices : Lent pageSize
   pub work : Lent stackSize
   pub ret : Lent stackSize
-  -- "whatever their records and budgets": bytes of any number, and any budget
+  -- "whatever their records and budgets": any bytes, as many as there may be, and any number
   pub frame : List ℕ
   pub low : Bytes frame
   pub budget : ℕ
@@ -46,31 +46,48 @@ pub record Call : Type 0 where
 -- the machine before the call, the bytes put in
 unfoldable pub filled : Call → State → State
 filled c s =
-    state (c .zeroPage .bytes ++ drop start (s .memory)) (c .devicePage .bytes) (c .workBytes .bytes) (c .retBytes .bytes) (registers s)
+    state
+    (c .zeroPage .bytes ++ drop start (s .memory))
+    (c .devicePage .bytes)
+    (c .workBytes .bytes)
+    (c .retBytes .bytes)
+    (registers s)
 
+-- a buffer that is lent, and the machine's own afterwards: as it was left, if it was lent
 abbrev pub lent : {n : ℕ} → Lent n → List ℕ → List ℕ
 lent own mine = mine
 lent (other bytes wrong) mine = bytes
-
--- what the call is lent, the machine being s
-unfoldable pub given : Call → State → State
-given c s =
-    state (lent (c .memory) (s .memory)) (lent (c .devices) (s .devices)) (lent (c .work) (s .work .bytes)) (lent (c .ret) (s .ret .bytes)) (registers s)
 
 abbrev pub back : {n : ℕ} → Lent n → List ℕ → List ℕ → List ℕ
 back own mine left = left
 back (other bytes wrong) mine left = mine
 
+-- what the call gets, the machine being s
+unfoldable pub given : Call → State → State
+given c s =
+    state
+    (lent (c .memory) (s .memory))
+    (lent (c .devices) (s .devices))
+    (lent (c .work) (s .work .bytes))
+    (lent (c .ret) (s .ret .bytes))
+    (registers s)
+
 -- the machine after a call that left t: (01) "the machine record that the last one returned and the buffers as that one left
--- them"; one that was not lent is as it was
+-- them"
 unfoldable pub handedBack : Call → State → State → State
 handedBack c s t =
-    state (back (c .memory) (s .memory) (t .memory)) (back (c .devices) (s .devices) (t .devices)) (back (c .work) (s .work .bytes) (t .work .bytes)) (back (c .ret) (s .ret .bytes) (t .ret .bytes)) (registers t)
+    state
+    (back (c .memory) (s .memory) (t .memory))
+    (back (c .devices) (s .devices) (t .devices))
+    (back (c .work) (s .work .bytes) (t .work .bytes))
+    (back (c .ret) (s .ret .bytes) (t .ret .bytes))
+    (registers t)
 
--- what the frame call gets, and the machine after it: "otherwise each call gets what the one before it left"
+-- what the frame call gets: "otherwise each call gets what the one before it left"
 abbrev pub called : Call → State → State
 called c s = given c (filled c s)
 
+-- the machine after the frame call
 abbrev pub next : Call → State → State
 next c s = handedBack c (filled c s) (frameCall (c .frame) (c .budget) (called c s) .state)
 
@@ -92,7 +109,7 @@ pub record Sound (filter sheet : List ℕ) (s : State) : Type 0 where
   -- "Before every step .. every byte of the filter in memory is the one loaded."
   pub intact : Intact filter s
 
--- along the list: before its first call and after every call the filter is intact, and each state before a step is sound
+-- along the list: "Before every step", and "after every call", and before the first one
 abbrev pub Safe : (filter sheet : List ℕ) → State → List Call → Type 0
 Safe filter sheet s [] = Intact filter s
 Safe filter sheet s (c ∷ cs) =
