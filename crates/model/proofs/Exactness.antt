@@ -12,7 +12,7 @@ use Rattle.model.specs.Admission.{admitMost, markAt, reached, admitted, 
 use Rattle.model.specs.Calls.{refusal, admitRows, admitBy, admitCall}
 use Rattle.model.specs.Exactness.{Proper, Exact}
 use Rattle.model.proofs.Tests.{is-true}
-use Rattle.model.proofs.Rules.{length-assigns, assigns-is}
+use Rattle.model.proofs.Rules.{parts, assigns-is}
 use Rattle.model.proofs.Reached.{reached-least, admitted-exactly}
 use Rattle.model.proofs.Sheet.{length-sheet, record-is, mark-in}
 use Rattle.model.proofs.Numbers.{no-rows, passed-over, given-by, none-says, right}
@@ -47,7 +47,7 @@ pub smallest : (program sheet : List ℕ) → Passed program sheet → Smallest 
 unfolding admitted
 smallest program sheet ok =
     let marks = reached program in
-    let l = length-assigns program marks (ok .fine) in
+    let l = parts program marks (ok .fine) .0 in
     let e : markIn (sheetOf marks program) ≡ markAt marks = λ i at. mark-in marks program l at i in
     rw (ok .written)
     record {

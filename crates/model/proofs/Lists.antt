@@ -22,11 +22,11 @@ use Rattle.model.proofs.Numbers.{loaded, frame-right, frame-runs, frame
 -- what is lent with the right length is the machine's own, and comes back as the call left it
 lent-own : {n : ℕ} (l : Lent n) (mine : List ℕ) → length (lent l mine) ≡ n → lent l mine ≡ mine
 lent-own own mine e = refl
-lent-own (other bytes wrong) mine e = absurd (wrong e)
+lent-own (other bytes wrong) mine e = absurd (wrong (omega arith))
 
 back-own : {n : ℕ} (l : Lent n) (mine left : List ℕ) → length (lent l mine) ≡ n → back l mine left ≡ left
 back-own own mine left e = refl
-back-own (other bytes wrong) mine left e = absurd (wrong e)
+back-own (other bytes wrong) mine left e = absurd (wrong (omega arith))
 
 -- what a call leaves as it found it, the machine has as it was
 back-same : {n : ℕ} (l : Lent n) (mine : List ℕ) → back l mine (lent l mine) ≡ mine

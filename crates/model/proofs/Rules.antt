@@ -123,27 +123,27 @@ fits-at program marks at (x ∷ xs) (suc i) t =
     let e : at + suc i ≡ at + 1 + i = omega arith in
     rw e (fits-at program marks (at + 1) xs i (and-right (fits program marks at x) (fitsFrom program marks (at + 1) xs) t))
 
-pub length-assigns : (program : List ℕ) (marks : List Mark) → T (assigns program marks) → length marks ≡ length program
+-- the three parts of the whole test
+pub parts : (program : List ℕ) (marks : List Mark) → T (assigns program marks)
+    → (length marks ≡ length program) × (markAt marks start ≡ marked 0 0) × T (fitsFrom program marks start marks)
 unfolding assigns
-length-assigns program marks t =
-    let a = eqb (length marks) (length program) in
-    let b = sameMark (markAt marks start) (marked 0 0) in
-    eqb→eq _ _ (and-left a b (and-left (a && b) (fitsFrom program marks start marks) t))
-
--- a list that passes is an assignment
-pub assigns-is : (program : List ℕ) (marks : List Mark) → T (assigns program marks) → Assignment program (markAt marks)
-unfolding assigns
-assigns-is program marks t =
+parts program marks t =
     let a = eqb (length marks) (length program) in
     let b = sameMark (markAt marks start) (marked 0 0) in
     let c = fitsFrom program marks start marks in
+    let u = and-left (a && b) c t in
+    (eqb→eq _ _ (and-left a b u), same-mark (markAt marks start) (marked 0 0) (and-right a b u), and-right (a && b) c t)
+
+-- a list that passes is an assignment
+pub assigns-is : (program : List ℕ) (marks : List Mark) → T (assigns program marks) → Assignment program (markAt marks)
+assigns-is program marks t =
+    let p = parts program marks t in
     record {
-      first = same-mark (markAt marks start) (marked 0 0) (and-right a b (and-left (a && b) c t));
+      first = p .1;
       rules = λ at w r e.
           let d = marked-at marks at w r e in
           let i : start + (at - start) ≡ at = omega (arith, d .0) in
-          rules-of program marks at w r (length-assigns program marks t) e
-          (rw (i, d .1) at (fits-at program marks start marks (at - start) (and-right (a && b) c t)));
+          rules-of program marks at w r (p .0) e (rw (i, d .1) at (fits-at program marks start marks (at - start) (p .2)));
     }
 
 -- ---- the test, from the rules

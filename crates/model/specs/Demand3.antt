@@ -121,9 +121,9 @@ pub record Demand3 : Type 0 where
   -- "A filter of 1 to 4,096 bytes, given a sheet of the right length, is admitted exactly when depths for its addresses exist
   -- that obey the admission rules of document 01."
   pub exact : Exact
-  -- "Load an admitted filter. Then the following holds for every list of frame calls from there": whatever sheet the
-  -- admission was lent and whatever machine the load was given, neither being refused; (01) "The sheet is the one that
-  -- admission wrote for this filter"
+  -- "Load an admitted filter. Then the following holds for every list of frame calls from there": for every filter, which is
+  -- bytes, whatever sheet the admission was lent and whatever machine the load was given, neither being refused; (01) "The
+  -- sheet is the one that admission wrote for this filter"
   pub safe : (filter sheet : List ℕ) → Bytes filter → admitCall filter sheet .answer ≡ Admitted
       → (s : State) → loadCall filter s .answer ≡ Loaded
       → (calls : List Call) → Safe filter (admitCall filter sheet .sheet) (loadCall filter s .state) calls
