@@ -1,13 +1,15 @@
 -- What the code reads and writes, as bytes of a ring; pushes of one and two bytes. Assumes nothing.
-use mathlib.Core.Path.{_≡_}
+use mathlib.Core.Path.{_≡_, ap, _∙_}
 use mathlib.Core.Bool.{Bool, true, false, cond}
 use mathlib.Core.List.{List}
 use Prim.Native.Nat.{ℕ, _+_, _*_, _/_, _%_}
+use native.Mathlib.Nat.{mod-mod}
 use native.Mathlib.Omega.{arith}
 use lib.ListN.{getD, set}
 use Rattle.model.specs.Bytes.{word, number, readRing, writeRing}
 use Rattle.model.specs.Machine.{Stack, pushed}
 use Rattle.model.specs.Instruction.{size}
+use Rattle.model.proofs.Bytes.{read-mod}
 
 -- the first place, and the next one modulo the ring's size
 pub read-is : (w : Bool) (m : ℕ) (s : List ℕ) (i : ℕ) {j k r : ℕ} → j ≡ i % m → k ≡ (i + 1) % m
@@ -26,3 +28,7 @@ write-is false m s i v e f h = rw (← e) h
 pub pushed-two : (v : ℕ) (s : Stack) {t u : Stack} → t ≡ pushed (word 1 (v / 256)) s → u ≡ pushed (word 1 v) t → u ≡ pushed (word 2 v) s
 unfolding pushed word
 pushed-two v s e f = rw (f, e)
+
+-- a place that has gone round already
+pub read-from : (m : ℕ) (s : List ℕ) (i n : ℕ) {j r : ℕ} → j ≡ i % m → r ≡ number (readRing m s j n) → r ≡ number (readRing m s i n)
+read-from m s i n {j} e h = rw (← read-mod m s j i n (ap (λ k. k % m) e ∙ mod-mod i m)) h

@@ -1,19 +1,20 @@
-// Stacks of 256 bytes whose pointers go round, and numbers of one or two bytes in a lent buffer.
+// Stacks, whose pointers go round, and numbers of one or two bytes in memory and device page.
 use std::num::wrapping_add_u8;
+use std::num::wrapping_add_u16;
 use std::num::wrapping_sub_u8;
 ghost use mathlib.Core.Path.{_≡_};
 ghost use mathlib.Core.Bool.{cond};
 ghost use mathlib.Core.List.{[], _∷_};
 ghost use Prim.Native.Nat.{_+_, _*_, _/_, _%_, _≤_, _<_};
 ghost use lib.ListN.{length, getD, set};
-ghost use Rattle.model.specs.Bytes.{word, number, readRing};
-ghost use Rattle.model.specs.Machine.{stack, pushed, operands, lowered};
+ghost use Rattle.model.specs.Bytes.{word, number, readRing, writeRing};
+ghost use Rattle.model.specs.Machine.{memorySize, pageSize, stackSize, stack, pushed, operands, lowered};
 ghost use Rattle.model.specs.Instruction.{size};
 ghost use Rattle.model.specs.Step.{zeroPageRing};
 
 // "In 8-bit form n = 1 and in 16-bit form n = 2."
 pub fn size_of(wide: bool) -> u8
-    ensures { λ r. ⌜ r ≡ size wide ⌝ }
+    ensures { λ r. ⌜ (r ≡ size wide) × (r ≤ 2) ⌝ }
 {
     if wide { 2 } else { 1 }
 }
@@ -57,26 +58,71 @@ pub fn write(buffer: &mut [u8], first: u16, second: u16, wide: bool, value: u16)
     }
 }
 
+// ---- memory and device page
+
+// "A 16-bit memory access uses its address and the next one modulo 65,536."
+pub fn load(memory: &[u8], address: u16, wide: bool) -> u16
+    requires { ⌜ length (now memory) ≡ memorySize ⌝ }
+    ensures { λ r. ⌜ r ≡ number (readRing memorySize (now (memory .entry)) address (size wide)) ⌝ }
+{
+    read(memory, address, wrapping_add_u16(address, 1), wide)
+}
+
+pub fn store(memory: &mut [u8], address: u16, wide: bool, value: u16)
+    requires { ⌜ length (now memory) ≡ memorySize ⌝ }
+    ensures { λ _. ⌜ now (memory .exit) ≡ writeRing memorySize (now (memory .entry)) address (word (size wide) value) ⌝ }
+{
+    write(memory, address, wrapping_add_u16(address, 1), wide, value);
+}
+
 // The second address of a 16-bit access to the zero page.
 pub fn zero_page_second(address: u16) -> u16
     ensures { λ r. ⌜ r ≡ (address + 1) % zeroPageRing ⌝ }
 {
-    std::num::wrapping_add_u16(address, 1)
+    wrapping_add_u16(address, 1)
 }
 
-// The second port of a 16-bit device access: "its port and the next one modulo 256".
+pub fn load_zero_page(memory: &[u8], address: u16, wide: bool) -> u16
+    requires { ⌜ length (now memory) ≡ memorySize ⌝ }
+    ensures { λ r. ⌜ r ≡ number (readRing zeroPageRing (now (memory .entry)) address (size wide)) ⌝ }
+{
+    read(memory, address, zero_page_second(address), wide)
+}
+
+pub fn store_zero_page(memory: &mut [u8], address: u16, wide: bool, value: u16)
+    requires { ⌜ length (now memory) ≡ memorySize ⌝ }
+    ensures { λ _. ⌜ now (memory .exit) ≡ writeRing zeroPageRing (now (memory .entry)) address (word (size wide) value) ⌝ }
+{
+    write(memory, address, zero_page_second(address), wide, value);
+}
+
+// "A 16-bit device access uses its port and the next one modulo 256."
 pub fn second_port(port: u16) -> u16
-    ensures { λ r. ⌜ r ≡ (port + 1) % 256 ⌝ }
+    ensures { λ r. ⌜ r ≡ (port + 1) % pageSize ⌝ }
 {
     wrapping_add_u8((port % 256) as u8, 1) as u16
+}
+
+pub fn input(devices: &[u8], port: u16, wide: bool) -> u16
+    requires { ⌜ length (now devices) ≡ pageSize ⌝ }
+    ensures { λ r. ⌜ r ≡ number (readRing pageSize (now (devices .entry)) port (size wide)) ⌝ }
+{
+    read(devices, port % 256, second_port(port), wide)
+}
+
+pub fn output(devices: &mut [u8], port: u16, wide: bool, value: u16)
+    requires { ⌜ length (now devices) ≡ pageSize ⌝ }
+    ensures { λ _. ⌜ now (devices .exit) ≡ writeRing pageSize (now (devices .entry)) port (word (size wide) value) ⌝ }
+{
+    write(devices, port % 256, second_port(port), wide, value);
 }
 
 // ---- pops
 
 // The number of n bytes just below the pointer.
 pub fn below(s: &[u8], p: u8, n: u8) -> u16
-    requires { ⌜ (length (now s) ≡ 256) × (n ≤ 2) ⌝ }
-    ensures { λ r. ⌜ r ≡ number (readRing 256 (now (s .entry)) (p + 255 * n) n) ⌝ }
+    requires { ⌜ (length (now s) ≡ stackSize) × (n ≤ 2) ⌝ }
+    ensures { λ r. ⌜ r ≡ number (readRing stackSize (now (s .entry)) (p + 255 * n) n) ⌝ }
 {
     if n == 0 {
         return 0;
@@ -88,7 +134,7 @@ pub fn below(s: &[u8], p: u8, n: u8) -> u16
 
 // The operands of an instruction, of a, b and c bytes, the one on top last; 0 bytes are no operand, and its number is 0.
 pub fn operands(s: &[u8], p: u8, a: u8, b: u8, c: u8) -> [u16; 3]
-    requires { ⌜ (length (now s) ≡ 256) × (a ≤ 2) × (b ≤ 2) × (c ≤ 2) ⌝ }
+    requires { ⌜ (length (now s) ≡ stackSize) × (a ≤ 2) × (b ≤ 2) × (c ≤ 2) ⌝ }
     ensures { λ r. ⌜ r ≡ operands (a ∷ b ∷ c ∷ []) (stack (now (s .entry)) p) ⌝ }
 {
     let q = wrapping_sub_u8(p, c);
@@ -107,7 +153,7 @@ pub fn lower(p: u8, keep: bool, n: u8) -> u8
 
 // "A push writes at the pointer, then adds one."
 pub fn push_byte(s: &mut [u8], p: u8, value: u16) -> u8
-    requires { ⌜ length (now s) ≡ 256 ⌝ }
+    requires { ⌜ length (now s) ≡ stackSize ⌝ }
     ensures { λ r. ⌜ stack (now (s .exit)) r ≡ pushed (word 1 value) (stack (now (s .entry)) p) ⌝ }
 {
     s[p as usize] = (value % 256) as u8;
@@ -116,7 +162,7 @@ pub fn push_byte(s: &mut [u8], p: u8, value: u16) -> u8
 
 // "A 16-bit push puts the high byte first."
 pub fn push(s: &mut [u8], p: u8, wide: bool, value: u16) -> u8
-    requires { ⌜ length (now s) ≡ 256 ⌝ }
+    requires { ⌜ length (now s) ≡ stackSize ⌝ }
     ensures { λ r. ⌜ stack (now (s .exit)) r ≡ pushed (word (size wide) value) (stack (now (s .entry)) p) ⌝ }
 {
     if wide {

@@ -1,0 +1,21 @@
+use Rattle.operations.proofs.Operands as took
+use Rattle.operations.proofs.Operations as laws
+use mathlib.Core.Path.{refl}
+use borrow.Author.Needs.{needs}
+use Rattle.operations.proofs.lda.Statement.{statement}
+use Rattle.operations.proofs.lda.Tie as tie
+
+returns : tie.Need-returns
+returns c = laws.lda-is _ _ _ _ (took.one 2 2 refl (c .before .before .before .before .before .before .operands .ensures) (c .before .before .before .before .lower .ensures)) (c .before .before .before .load .ensures) (c .before .before .push .ensures)
+
+pub lda-spec : {M : Type 1} → statement M
+lda-spec =
+    tie.close
+    (tie.spec
+    (λ c κs. search needs)
+    (λ c κs. search needs)
+    (λ c. search needs)
+    (λ c κs. search needs)
+    (λ c κs. search needs)
+    (λ c. search needs)
+    returns)

@@ -1,0 +1,22 @@
+use Rattle.operations.proofs.Operands as took
+use Rattle.operations.proofs.Operations as laws
+use mathlib.Core.Path.{refl}
+use borrow.Author.Needs.{needs}
+use Rattle.operations.proofs.ldr.Statement.{statement}
+use Rattle.operations.proofs.ldr.Tie as tie
+
+returns : tie.Need-returns
+returns c = laws.ldr-is _ _ _ _ _ _ (took.one 1 1 refl (c .before .before .before .before .before .before .before .operands .ensures) (c .before .before .before .before .before .lower .ensures)) (c .before .before .before .before .relative .ensures) (c .before .before .before .load .ensures) (c .before .before .push .ensures)
+
+pub ldr-spec : {M : Type 1} → statement M
+ldr-spec =
+    tie.close
+    (tie.spec
+    (λ c κs. search needs)
+    (λ c κs. search needs)
+    (λ c. search needs)
+    (λ c κs. search needs)
+    (λ c κs. search needs)
+    (λ c κs. search needs)
+    (λ c. search needs)
+    returns)

@@ -1,0 +1,16 @@
+use mathlib.Core.Path.{_≡_}
+use borrow.Author.Needs.{needs}
+use Rattle.operations.proofs.lit.Statement.{statement}
+use Rattle.operations.proofs.lit.Tie as tie
+
+returns : tie.Need-returns
+returns c = rw (c .before .before .before .inline .ensures) at (c .before .before .push .ensures)
+
+pub lit-spec : {M : Type 1} → statement M
+lit-spec =
+    tie.close
+    (tie.spec
+    (λ c κs. search needs)
+    (λ c κs. search needs)
+    (λ c. search needs)
+    returns)

@@ -1,0 +1,20 @@
+use Rattle.operations.proofs.Operations as laws
+use borrow.Author.Needs.{needs}
+use Rattle.operations.proofs.str.Statement.{statement}
+use Rattle.operations.proofs.str.Tie as tie
+
+returns : tie.Need-returns
+returns c = laws.str-is _ _ _ _ (c .before .before .before .before .before .before .size-of .ensures .0) _ _ _ (c .before .before .before .before .before .operands .ensures) (c .before .before .before .relative .ensures) (c .before .before .store .ensures)
+
+pub str-spec : {M : Type 1} → statement M
+str-spec =
+    tie.close
+    (tie.spec
+    (λ c κs. search needs)
+    (λ c κs. search needs)
+    (λ c. search needs)
+    (λ c κs. search needs)
+    (λ c. search needs)
+    (λ c κs. search needs)
+    (λ c. search needs)
+    returns)

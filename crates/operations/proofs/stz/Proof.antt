@@ -1,0 +1,19 @@
+use Rattle.operations.proofs.Operations as laws
+use borrow.Author.Needs.{needs}
+use Rattle.operations.proofs.stz.Statement.{statement}
+use Rattle.operations.proofs.stz.Tie as tie
+
+returns : tie.Need-returns
+returns c = laws.stz-is _ _ _ _ (c .before .before .before .before .before .size-of .ensures .0) _ (c .before .before .before .before .operands .ensures) (c .before .before .store-zero-page .ensures)
+
+pub stz-spec : {M : Type 1} → statement M
+stz-spec =
+    tie.close
+    (tie.spec
+    (λ c κs. search needs)
+    (λ c κs. search needs)
+    (λ c. search needs)
+    (λ c. search needs)
+    (λ c κs. search needs)
+    (λ c. search needs)
+    returns)

@@ -1,0 +1,19 @@
+-- What one operation, and one instruction byte, leave: model's definitions put together for the contracts of the inner functions.
+-- Assumes nothing.
+use mathlib.Core.Bool.{Bool, cond}
+use mathlib.Core.List.{List}
+use Prim.Native.Nat.{ℕ}
+use lib.Dec.{eqb}
+use Rattle.model.specs.Machine.{Stack, State}
+use Rattle.model.specs.Instruction.{Op}
+use Rattle.model.specs.Step.{effectOn, mainAfter, execute}
+use Rattle.model.specs.Run.{Reply, reply}
+use Rattle.model.specs.Run.Answer.{WentOn, Broke}
+
+-- the main stack after an operation, with the memory, the device page and the next address that it may use
+abbrev pub after : (memory devices : List ℕ) (next : ℕ) → Op → Bool → Bool → Stack → Stack
+after memory devices next o w keep s = mainAfter o w keep (effectOn memory devices next 0 o w s) s
+
+-- the reply of a step that carries out this byte
+abbrev pub executed : ℕ → State → Reply
+executed byte s = reply (cond (eqb byte 0x00) Broke WentOn) 1 0 (execute byte s)
