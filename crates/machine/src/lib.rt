@@ -1,0 +1,194 @@
+// The public calls on a machine: load, step, run, event and frame. Each takes the machine record by value and four lent
+// buffers of any length, and refuses first.
+use buffers::clear;
+use buffers::clear_verdict;
+use buffers::event_refusal;
+use buffers::frame_memory;
+use buffers::frame_refusal;
+use buffers::load_memory;
+use buffers::load_refusal;
+use buffers::verdict;
+use buffers::wrong_length;
+use model::EventReply;
+use model::FrameReply;
+use model::LoadReply;
+use model::Machine;
+use model::RunReply;
+use model::StepReply;
+use stack::input;
+ghost use mathlib.Core.Path.{_≡_};
+ghost use Rattle.model.specs.Machine.{state};
+ghost use Rattle.model.specs.Calls.{loadCall, stepCall, runCall, eventCall, frameCall};
+ghost use Rattle.model.specs.Replies.{ofLoad, ofStep, ofRun, ofEvent, ofFrame};
+ghost use Rattle.machine.specs.FromRun.{stepOf, eventOf, frameOf};
+
+// A program stands at 0100 hexadecimal, and starts there.
+const START: u16 = 0x0100;
+
+// Device d has the ports from 16 x d on.
+const DEVICE_PORTS: u16 = 16;
+
+// ---- from the reply of a run
+
+// The reply of a step, from that of a run with budget 1.
+fn step_of(reply: RunReply) -> StepReply
+    ensures { λ r. ⌜ r ≡ stepOf reply ⌝ }
+{
+    match reply {
+        RunReply::Refused(n, m) => StepReply::Refused(n, m),
+        RunReply::Broke(m, _) => StepReply::Broke(m),
+        RunReply::Spent(m, _) => StepReply::WentOn(m),
+    }
+}
+
+fn event_of(reply: RunReply) -> EventReply
+    ensures { λ r. ⌜ r ≡ eventOf reply ⌝ }
+{
+    match reply {
+        RunReply::Refused(n, m) => EventReply::Refused(n, m),
+        RunReply::Broke(m, steps) => EventReply::Broke(m, steps),
+        RunReply::Spent(m, steps) => EventReply::Spent(m, steps),
+    }
+}
+
+// "The verdict is port F2 if Broke and 0 if Spent."
+fn frame_of(reply: RunReply, verdict: u8) -> FrameReply
+    ensures { λ r. ⌜ r ≡ frameOf reply verdict ⌝ }
+{
+    match reply {
+        RunReply::Refused(n, m) => FrameReply::Refused(n, m),
+        RunReply::Broke(m, steps) => FrameReply::Broke(m, steps, verdict),
+        RunReply::Spent(m, steps) => FrameReply::Spent(m, steps),
+    }
+}
+
+// ---- the calls
+
+pub fn load(
+    m: Machine,
+    memory: &mut [u8],
+    devices: &mut [u8],
+    work: &mut [u8],
+    ret: &mut [u8],
+    program: &[u8],
+) -> LoadReply
+    ensures { λ r. ⌜ ofLoad (state (now (memory .exit)) (now (devices .exit)) (now (work .exit)) (now (ret .exit))) r
+        ≡ loadCall (now (program .entry)) (state (now (memory .entry)) (now (devices .entry)) (now (work .entry)) (now (ret .entry)) m) ⌝ }
+{
+    let number = load_refusal(memory, devices, work, ret, program);
+    if number != 0 {
+        return LoadReply::Refused(number, m);
+    }
+    load_memory(memory, program);
+    clear(devices);
+    clear(work);
+    clear(ret);
+    LoadReply::Loaded(Machine {
+        pc: START,
+        wp: 0,
+        rp: 0,
+    })
+}
+
+// A run with budget 1: the loop of `cpu::run` stays the one place where an instruction is carried out.
+pub fn step(
+    m: Machine,
+    memory: &mut [u8],
+    devices: &mut [u8],
+    work: &mut [u8],
+    ret: &mut [u8],
+) -> StepReply
+    ensures { λ r. ⌜ ofStep (state (now (memory .exit)) (now (devices .exit)) (now (work .exit)) (now (ret .exit))) r
+        ≡ stepCall (state (now (memory .entry)) (now (devices .entry)) (now (work .entry)) (now (ret .entry)) m) ⌝ }
+{
+    let number = wrong_length(memory, devices, work, ret);
+    if number != 0 {
+        return StepReply::Refused(number, m);
+    }
+    step_of(cpu::run(m, memory, devices, work, ret, 1))
+}
+
+pub fn run(
+    m: Machine,
+    memory: &mut [u8],
+    devices: &mut [u8],
+    work: &mut [u8],
+    ret: &mut [u8],
+    budget: u32,
+) -> RunReply
+    ensures { λ r. ⌜ ofRun (state (now (memory .exit)) (now (devices .exit)) (now (work .exit)) (now (ret .exit))) r
+        ≡ runCall budget (state (now (memory .entry)) (now (devices .entry)) (now (work .entry)) (now (ret .entry)) m) ⌝ }
+{
+    let number = wrong_length(memory, devices, work, ret);
+    if number != 0 {
+        return RunReply::Refused(number, m);
+    }
+    cpu::run(m, memory, devices, work, ret, budget)
+}
+
+pub fn event(
+    m: Machine,
+    memory: &mut [u8],
+    devices: &mut [u8],
+    work: &mut [u8],
+    ret: &mut [u8],
+    device: u8,
+    budget: u32,
+) -> EventReply
+    ensures { λ r. ⌜ ofEvent (state (now (memory .exit)) (now (devices .exit)) (now (work .exit)) (now (ret .exit))) r
+        ≡ eventCall device budget (state (now (memory .entry)) (now (devices .entry)) (now (work .entry)) (now (ret .entry)) m) ⌝ }
+{
+    let number = event_refusal(memory, devices, work, ret, device);
+    if number != 0 {
+        return EventReply::Refused(number, m);
+    }
+    let vector = input(devices, DEVICE_PORTS * (device as u16), true);
+    if vector == 0 {
+        return EventReply::Ignored(m);
+    }
+    event_of(cpu::run(
+        Machine {
+            pc: vector,
+            wp: m.wp,
+            rp: m.rp,
+        },
+        memory,
+        devices,
+        work,
+        ret,
+        budget,
+    ))
+}
+
+pub fn frame(
+    m: Machine,
+    memory: &mut [u8],
+    devices: &mut [u8],
+    work: &mut [u8],
+    ret: &mut [u8],
+    frame: &[u8],
+    budget: u32,
+) -> FrameReply
+    ensures { λ r. ⌜ ofFrame (state (now (memory .exit)) (now (devices .exit)) (now (work .exit)) (now (ret .exit))) r
+        ≡ frameCall (now (frame .entry)) budget (state (now (memory .entry)) (now (devices .entry)) (now (work .entry)) (now (ret .entry)) m) ⌝ }
+{
+    let number = frame_refusal(memory, devices, work, ret, frame);
+    if number != 0 {
+        return FrameReply::Refused(number, m);
+    }
+    frame_memory(memory, frame);
+    clear_verdict(devices);
+    let reply = cpu::run(
+        Machine {
+            pc: START,
+            wp: 0,
+            rp: 0,
+        },
+        memory,
+        devices,
+        work,
+        ret,
+        budget,
+    );
+    frame_of(reply, verdict(devices))
+}
