@@ -1,14 +1,20 @@
 // A step and a run, on buffers of the right lengths.
-use execute_return::execute_return;
-use execute_work::execute_work;
+use execute::execute;
 use model::Machine;
-use model::RunReply;
 use model::StepReply;
 ghost use mathlib.Core.Path.{_≡_};
+ghost use Prim.Native.Nat.{_≤_};
 ghost use Rattle.model.specs.Machine.{state, Sized};
 ghost use Rattle.model.specs.Run as model;
-ghost use Rattle.model.specs.Replies.{ofStep, ofRun};
-ghost use Rattle.cpu.specs.Ended.{endedBy};
+ghost use Rattle.model.specs.Replies.{ofStep};
+ghost use Rattle.cpu.specs.Ended.{ofEnd, left, endedBy};
+
+// How a run ended, with the machine record afterwards and the part of the budget that is left: the loop counts down, and its
+// callers count the steps.
+pub enum End {
+    Broke(Machine, u32),
+    Spent(Machine),
+}
 
 // One instruction. It has one caller, the loop of `run`, and is inlined there.
 pub fn step(
@@ -24,23 +30,17 @@ pub fn step(
 {
     let at = m.pc;
     let byte = memory[at as usize];
-    let key = byte % 64;
-    let keep = 128 <= byte;
-    if byte / 64 % 2 == 1 {
-        execute_return(m, memory, devices, work, ret, key, keep)
-    } else {
-        execute_work(m, memory, devices, work, ret, key, keep)
-    }
+    execute(m, memory, devices, work, ret, byte % 128, 128 <= byte)
 }
 
-// The reply of a run that ends with this step, its steps being so many.
-pub fn ended(reply: StepReply, steps: u32) -> RunReply
-    ensures { λ r. ⌜ r ≡ endedBy reply steps ⌝ }
+// The end of a run whose last step gave this reply.
+fn ended(reply: StepReply, left: u32) -> End
+    ensures { λ r. ⌜ r ≡ endedBy reply left ⌝ }
 {
     match reply {
-        StepReply::Refused(n, m) => RunReply::Refused(n, m),
-        StepReply::WentOn(m) => RunReply::Spent(m, steps),
-        StepReply::Broke(m) => RunReply::Broke(m, steps),
+        StepReply::Refused(_, m) => End::Spent(m),
+        StepReply::WentOn(m) => End::Spent(m),
+        StepReply::Broke(m) => End::Broke(m, left),
     }
 }
 
@@ -52,24 +52,25 @@ pub fn run(
     work: &mut [u8],
     ret: &mut [u8],
     budget: u32,
-) -> RunReply
+) -> End
     requires { ⌜ Sized (state (now memory) (now devices) (now work) (now ret) m) ⌝ }
-    ensures { λ r. ⌜ ofRun (state (now (memory .exit)) (now (devices .exit)) (now (work .exit)) (now (ret .exit))) r
-        ≡ model.run budget (state (now (memory .entry)) (now (devices .entry)) (now (work .entry)) (now (ret .entry)) m) ⌝ }
+    ensures { λ r. ⌜ (ofEnd budget (state (now (memory .exit)) (now (devices .exit)) (now (work .exit)) (now (ret .exit))) r
+        ≡ model.run budget (state (now (memory .entry)) (now (devices .entry)) (now (work .entry)) (now (ret .entry)) m))
+        × (left r ≤ budget) ⌝ }
 {
     let mut pc = m.pc;
     let mut wp = m.wp;
     let mut rp = m.rp;
-    let mut steps: u32 = 0;
-    while steps < budget {
+    let mut left = budget;
+    while 0 < left {
         let reply = step(Machine { pc, wp, rp }, memory, devices, work, ret);
-        steps += 1;
+        left -= 1;
         let StepReply::WentOn(next) = reply else {
-            return ended(reply, steps);
+            return ended(reply, left);
         };
         pc = next.pc;
         wp = next.wp;
         rp = next.rp;
     }
-    RunReply::Spent(Machine { pc, wp, rp }, steps)
+    End::Spent(Machine { pc, wp, rp })
 }

@@ -16,10 +16,11 @@ use Rattle.model.specs.Run.Answer.{Refused, Loaded, WentOn, Broke, Spent, Ignor
 use Rattle.model.specs.Calls.{refusal, hasLength, bufferRows, unless, from, loadMost, loadRows, load, loadCall, stepCall, runCall, eventRows, vector, eventCall, frameSize, framePlace, verdictPort, frameRows, framed, verdictOf, withVerdict, frameCall}
 use Rattle.model.specs.Replies.{ofLoad, ofStep, ofRun, ofEvent, ofFrame}
 use Rattle.model.specs.declared.Machine.{Machine}
-use Rattle.model.specs.declared.RunReply.{RunReply}
-use Rattle.model.proofs.Runs.{run-broke, run-on, run-answer}
+use Rattle.model.proofs.Runs.{run-broke, run-on}
 use Rattle.model.proofs.Numbers.{none-says, buffers-right, frame-right}
-use Rattle.machine.specs.FromRun.{stepOf, eventOf, frameOf}
+use Rattle.cpu.specs.Ended.{ofEnd}
+use Rattle.cpu.specs.declared.End.{End}
+use Rattle.machine.specs.FromRun.{stepOf, runOf, eventOf, frameOf}
 
 -- ---- a refusal, and none
 
@@ -62,26 +63,20 @@ frame-taken frame s e z = frame-right frame s (sym e ∙ z)
 
 -- ---- what a run replies
 
-answers : {r t : Reply} → r ≡ t → r .answer ≡ t .answer
-answers h = ap (λ (x : Reply). x .answer) h
+-- the replies of a run, an event and a frame say what the end of the run says
+module _ (after : Machine → State) (budget : ℕ) where
+  pub run-is : (e : End) → ofRun after (runOf budget e) ≡ ofEnd budget after e
+  run-is (End.Broke m left) = refl
+  run-is (End.Spent m) = refl
 
--- no run is refused
-not-refused : {A : Type 0} (budget : ℕ) (s : State) (n : ℕ) → run budget s .answer ≡ Refused n → A
-not-refused {A} budget s n =
-    run-answer (λ a. a ≡ Refused n → A) (λ e. let z : _≡_ {A = ℕ} 0 1 = cc in absurd (omega arith))
-    (λ e. let z : _≡_ {A = ℕ} 0 1 = cc in absurd (omega arith)) budget s
+  pub event-is : (e : End) → ofEvent after (eventOf budget e) ≡ ofEnd budget after e
+  event-is (End.Broke m left) = refl
+  event-is (End.Spent m) = refl
 
-module _ (left : Machine → State) (budget : ℕ) (s : State) where
-  pub event-is : (a : RunReply) → ofRun left a ≡ run budget s → ofEvent left (eventOf a) ≡ run budget s
-  event-is (RunReply.Refused n m) h = not-refused budget s n (sym (answers h))
-  event-is (RunReply.Broke m steps) h = h
-  event-is (RunReply.Spent m steps) h = h
-
-  pub frame-is : (verdict : ℕ) (a : RunReply) (t : State) → ((m : Machine) → verdict ≡ getD (left m .devices) verdictPort 0) → s ≡ t
-      → ofRun left a ≡ run budget s → ofFrame left (frameOf a verdict) ≡ withVerdict (run budget t)
-  frame-is verdict (RunReply.Refused n m) t e f h = not-refused budget s n (sym (answers h))
-  frame-is verdict (RunReply.Broke m steps) t e f h = rw (← f, ← h, e m)
-  frame-is verdict (RunReply.Spent m steps) t e f h = rw (← f, ← h)
+  pub frame-is : (verdict : ℕ) (e : End) → ((m : Machine) → verdict ≡ getD (after m .devices) verdictPort 0)
+      → ofFrame after (frameOf budget e verdict) ≡ withVerdict (ofEnd budget after e)
+  frame-is verdict (End.Broke m left) h = rw (h m)
+  frame-is verdict (End.Spent m) h = refl
 
 -- a run with budget 1
 one-step : (s : State) → run 1 s ≡ reply (cond (breaks s) Broke Spent) 1 0 (step s)
@@ -92,18 +87,18 @@ one-step s = by (breaks s) refl
     by true e = run-broke 0 s e
     by false e = run-on 0 s e
 
-module _ (left : Machine → State) (s : State) where
-  stepped : (b : Bool) (t : State) (a : RunReply) → ofRun left a ≡ reply (cond b Broke Spent) 1 0 t
-      → ofStep left (stepOf a) ≡ reply (cond b Broke WentOn) 1 0 t
-  stepped true t (RunReply.Refused n m) h = let e = answers h in let z : _≡_ {A = ℕ} 0 1 = cc in absurd (omega arith)
-  stepped true t (RunReply.Broke m steps) h = ap (λ (r : Reply). reply Broke 1 0 (r .state)) h
-  stepped true t (RunReply.Spent m steps) h = let e = answers h in let z : _≡_ {A = ℕ} 0 1 = cc in absurd (omega arith)
-  stepped false t (RunReply.Refused n m) h = let e = answers h in let z : _≡_ {A = ℕ} 0 1 = cc in absurd (omega arith)
-  stepped false t (RunReply.Broke m steps) h = let e = answers h in let z : _≡_ {A = ℕ} 0 1 = cc in absurd (omega arith)
-  stepped false t (RunReply.Spent m steps) h = ap (λ (r : Reply). reply WentOn 1 0 (r .state)) h
+answers : {r t : Reply} → r ≡ t → r .answer ≡ t .answer
+answers h = ap (λ (x : Reply). x .answer) h
 
-  pub step-is : (a : RunReply) → ofRun left a ≡ run 1 s → ofStep left (stepOf a) ≡ stepReply s
-  step-is a h = stepped (breaks s) (step s) a (h ∙ one-step s)
+stepped : (after : Machine → State) (b : Bool) (t : State) (e : End) → ofEnd 1 after e ≡ reply (cond b Broke Spent) 1 0 t
+    → ofStep after (stepOf e) ≡ reply (cond b Broke WentOn) 1 0 t
+stepped after true t (End.Broke m left) h = ap (λ (r : Reply). reply Broke 1 0 (r .state)) h
+stepped after true t (End.Spent m) h = let a = answers h in let z : _≡_ {A = ℕ} 0 1 = cc in absurd (omega arith)
+stepped after false t (End.Broke m left) h = let a = answers h in let z : _≡_ {A = ℕ} 0 1 = cc in absurd (omega arith)
+stepped after false t (End.Spent m) h = ap (λ (r : Reply). reply WentOn 1 0 (r .state)) h
+
+pub step-is : (after : Machine → State) (s : State) (e : End) → ofEnd 1 after e ≡ run 1 s → ofStep after (stepOf e) ≡ stepReply s
+step-is after s e h = stepped after (breaks s) (step s) e (h ∙ one-step s)
 
 -- ---- load
 

@@ -1,21 +1,23 @@
--- The replies of step, event and frame, from the reply of the run that they make. Assumes nothing.
-use Prim.Native.Nat.{ℕ}
+-- The replies of step, run, event and frame, from the end of the run that they make. Assumes nothing.
+use Prim.Native.Nat.{ℕ, _-_}
 use Rattle.model.specs.declared.StepReply.{StepReply}
 use Rattle.model.specs.declared.RunReply.{RunReply}
 use Rattle.model.specs.declared.EventReply.{EventReply}
 use Rattle.model.specs.declared.FrameReply.{FrameReply}
+use Rattle.cpu.specs.declared.End.{End}
 
-abbrev pub stepOf : RunReply → StepReply
-stepOf (RunReply.Refused n m) = StepReply.Refused n m
-stepOf (RunReply.Broke m steps) = StepReply.Broke m
-stepOf (RunReply.Spent m steps) = StepReply.WentOn m
+abbrev pub stepOf : End → StepReply
+stepOf (End.Broke m left) = StepReply.Broke m
+stepOf (End.Spent m) = StepReply.WentOn m
 
-abbrev pub eventOf : RunReply → EventReply
-eventOf (RunReply.Refused n m) = EventReply.Refused n m
-eventOf (RunReply.Broke m steps) = EventReply.Broke m steps
-eventOf (RunReply.Spent m steps) = EventReply.Spent m steps
+abbrev pub runOf : ℕ → End → RunReply
+runOf budget (End.Broke m left) = RunReply.Broke m (budget - left)
+runOf budget (End.Spent m) = RunReply.Spent m budget
 
-abbrev pub frameOf : RunReply → ℕ → FrameReply
-frameOf (RunReply.Refused n m) verdict = FrameReply.Refused n m
-frameOf (RunReply.Broke m steps) verdict = FrameReply.Broke m steps verdict
-frameOf (RunReply.Spent m steps) verdict = FrameReply.Spent m steps
+abbrev pub eventOf : ℕ → End → EventReply
+eventOf budget (End.Broke m left) = EventReply.Broke m (budget - left)
+eventOf budget (End.Spent m) = EventReply.Spent m budget
+
+abbrev pub frameOf : ℕ → End → ℕ → FrameReply
+frameOf budget (End.Broke m left) verdict = FrameReply.Broke m (budget - left) verdict
+frameOf budget (End.Spent m) verdict = FrameReply.Spent m budget

@@ -9,6 +9,7 @@ use buffers::load_memory;
 use buffers::load_refusal;
 use buffers::verdict;
 use buffers::wrong_length;
+use cpu::End;
 use model::EventReply;
 use model::FrameReply;
 use model::LoadReply;
@@ -17,10 +18,12 @@ use model::RunReply;
 use model::StepReply;
 use stack::input;
 ghost use mathlib.Core.Path.{_≡_};
+ghost use Prim.Native.Nat.{_≤_};
 ghost use Rattle.model.specs.Machine.{state};
 ghost use Rattle.model.specs.Calls.{loadCall, stepCall, runCall, eventCall, frameCall};
 ghost use Rattle.model.specs.Replies.{ofLoad, ofStep, ofRun, ofEvent, ofFrame};
-ghost use Rattle.machine.specs.FromRun.{stepOf, eventOf, frameOf};
+ghost use Rattle.cpu.specs.Ended.{left};
+ghost use Rattle.machine.specs.FromRun.{stepOf, runOf, eventOf, frameOf};
 
 // A program stands at 0100 hexadecimal, and starts there.
 const START: u16 = 0x0100;
@@ -28,37 +31,46 @@ const START: u16 = 0x0100;
 // Device d has the ports from 16 x d on.
 const DEVICE_PORTS: u16 = 16;
 
-// ---- from the reply of a run
+// ---- from the end of a run
 
-// The reply of a step, from that of a run with budget 1.
-fn step_of(reply: RunReply) -> StepReply
-    ensures { λ r. ⌜ r ≡ stepOf reply ⌝ }
+// The reply of a step, from the end of a run with budget 1.
+fn step_of(end: End) -> StepReply
+    ensures { λ r. ⌜ r ≡ stepOf end ⌝ }
 {
-    match reply {
-        RunReply::Refused(n, m) => StepReply::Refused(n, m),
-        RunReply::Broke(m, _) => StepReply::Broke(m),
-        RunReply::Spent(m, _) => StepReply::WentOn(m),
+    match end {
+        End::Broke(m, _) => StepReply::Broke(m),
+        End::Spent(m) => StepReply::WentOn(m),
     }
 }
 
-fn event_of(reply: RunReply) -> EventReply
-    ensures { λ r. ⌜ r ≡ eventOf reply ⌝ }
+fn run_of(end: End, budget: u32) -> RunReply
+    requires { ⌜ left end ≤ budget ⌝ }
+    ensures { λ r. ⌜ r ≡ runOf budget end ⌝ }
 {
-    match reply {
-        RunReply::Refused(n, m) => EventReply::Refused(n, m),
-        RunReply::Broke(m, steps) => EventReply::Broke(m, steps),
-        RunReply::Spent(m, steps) => EventReply::Spent(m, steps),
+    match end {
+        End::Broke(m, left) => RunReply::Broke(m, budget - left),
+        End::Spent(m) => RunReply::Spent(m, budget),
+    }
+}
+
+fn event_of(end: End, budget: u32) -> EventReply
+    requires { ⌜ left end ≤ budget ⌝ }
+    ensures { λ r. ⌜ r ≡ eventOf budget end ⌝ }
+{
+    match end {
+        End::Broke(m, left) => EventReply::Broke(m, budget - left),
+        End::Spent(m) => EventReply::Spent(m, budget),
     }
 }
 
 // "The verdict is port F2 if Broke and 0 if Spent."
-fn frame_of(reply: RunReply, verdict: u8) -> FrameReply
-    ensures { λ r. ⌜ r ≡ frameOf reply verdict ⌝ }
+fn frame_of(end: End, budget: u32, verdict: u8) -> FrameReply
+    requires { ⌜ left end ≤ budget ⌝ }
+    ensures { λ r. ⌜ r ≡ frameOf budget end verdict ⌝ }
 {
-    match reply {
-        RunReply::Refused(n, m) => FrameReply::Refused(n, m),
-        RunReply::Broke(m, steps) => FrameReply::Broke(m, steps, verdict),
-        RunReply::Spent(m, steps) => FrameReply::Spent(m, steps),
+    match end {
+        End::Broke(m, left) => FrameReply::Broke(m, budget - left, verdict),
+        End::Spent(m) => FrameReply::Spent(m, budget),
     }
 }
 
@@ -123,7 +135,7 @@ pub fn run(
     if number != 0 {
         return RunReply::Refused(number, m);
     }
-    cpu::run(m, memory, devices, work, ret, budget)
+    run_of(cpu::run(m, memory, devices, work, ret, budget), budget)
 }
 
 pub fn event(
@@ -146,7 +158,7 @@ pub fn event(
     if vector == 0 {
         return EventReply::Ignored(m);
     }
-    event_of(cpu::run(
+    let end = cpu::run(
         Machine {
             pc: vector,
             wp: m.wp,
@@ -157,7 +169,8 @@ pub fn event(
         work,
         ret,
         budget,
-    ))
+    );
+    event_of(end, budget)
 }
 
 pub fn frame(
@@ -178,7 +191,7 @@ pub fn frame(
     }
     frame_memory(memory, frame);
     clear_verdict(devices);
-    let reply = cpu::run(
+    let end = cpu::run(
         Machine {
             pc: START,
             wp: 0,
@@ -190,5 +203,5 @@ pub fn frame(
         ret,
         budget,
     );
-    frame_of(reply, verdict(devices))
+    frame_of(end, budget, verdict(devices))
 }

@@ -135,51 +135,42 @@ module _ (w k : Bool) (s : State) {n : ℕ} (hn : n ≡ (s .pc + 1) % 65536) whe
   unfolding opened
   sth-is f h = rw (f, alone w k (s .work .pointer) h, hn)
 
--- ---- by the low six bits, bit 6 and keep
+-- ---- by the low seven bits and keep
 
 -- low five bits not 0: the high bits do not choose the operation
 op-high : (op high : ℕ) → 0 < op → opAt op 0 ≡ opAt op high
 op-high zero high h = absurd (omega arith)
 op-high (suc k) high h = refl
 
--- the bits of the byte
-keep-is : (key : ℕ) (r k : Bool) → key < 64 → keepMode (byteOf key r k) ≡ k
+-- bit 7, and what the other bits say without it
+keep-is : (key : ℕ) (k : Bool) → key < 128 → keepMode (byteOf key k) ≡ k
 unfolding keepMode
-keep-is key true true h = eq-eqb ((key + 64 + 128) / 128 % 2) 1 (omega arith)
-keep-is key true false h = ne-eqb ((key + 64 + 0) / 128 % 2) 1 (λ e. omega arith)
-keep-is key false true h = eq-eqb ((key + 0 + 128) / 128 % 2) 1 (omega arith)
-keep-is key false false h = ne-eqb ((key + 0 + 0) / 128 % 2) 1 (λ e. omega arith)
+keep-is key true h = eq-eqb ((key + 128) / 128 % 2) 1 (omega arith)
+keep-is key false h = ne-eqb ((key + 0) / 128 % 2) 1 (λ e. omega arith)
 
-return-is : (key : ℕ) (r k : Bool) → key < 64 → returnMode (byteOf key r k) ≡ r
-unfolding returnMode
-return-is key true true h = eq-eqb ((key + 64 + 128) / 64 % 2) 1 (omega arith)
-return-is key true false h = eq-eqb ((key + 64 + 0) / 64 % 2) 1 (omega arith)
-return-is key false true h = ne-eqb ((key + 0 + 128) / 64 % 2) 1 (λ e. omega arith)
-return-is key false false h = ne-eqb ((key + 0 + 0) / 64 % 2) 1 (λ e. omega arith)
+bits-are : (key : ℕ) (k : Bool)
+    → (byteOf key k % 32 ≡ key % 32) × (byteOf key k / 32 % 2 ≡ key / 32 % 2) × (byteOf key k / 64 % 2 ≡ key / 64 % 2)
+bits-are key true = (omega arith, omega arith, omega arith)
+bits-are key false = (omega arith, omega arith, omega arith)
 
-low-is : (key : ℕ) (r k : Bool) → (byteOf key r k % 32 ≡ key % 32) × (byteOf key r k / 32 % 2 ≡ key / 32 % 2)
-low-is key true true = (omega arith, omega arith)
-low-is key true false = (omega arith, omega arith)
-low-is key false true = (omega arith, omega arith)
-low-is key false false = (omega arith, omega arith)
+-- the arm for key N
+pub arm : (N : ℕ) (k : Bool) (s : State) → 0 < N % 32 → N < 128 → {key : ℕ} {t : State} → key ≡ N
+    → t ≡ operated (opAt (N % 32) 0) (eqb (N / 32 % 2) 1) (eqb (N / 64 % 2) 1) k s → reply WentOn 1 0 t ≡ executed (byteOf key k) s
+unfolding execute opOf wide returnMode
+arm N k s h l e g =
+    let b = bits-are N k in
+    let some : byteOf N k ≡ 0 → ⊥ = λ z. let low = b .0 in omega arith in
+    rw (e, ne-eqb _ _ some, keep-is N k l, b .0, b .1, b .2, ← op-high (N % 32) (byteOf N k / 32) h, ← g)
 
-executed-is : (key : ℕ) (r k : Bool) (s : State) {t : State} → 0 < key % 32 → key < 64
-    → t ≡ operated (opAt (key % 32) 0) (eqb (key / 32 % 2) 1) r k s → reply WentOn 1 0 t ≡ executed (byteOf key r k) s
-unfolding execute opOf wide
-executed-is key r k s h l g =
-    let low = low-is key r k in
-    let some : byteOf key r k ≡ 0 → ⊥ = λ e. let z = low .0 in omega arith in
-    rw (ne-eqb _ _ some, keep-is key r k l, return-is key r k l, low .0, low .1, ← op-high (key % 32) (byteOf key r k / 32) h, ← g)
-
-module _ (N : ℕ) (k : Bool) (s : State) (o : 0 < N % 32) (l : N < 64) {key : ℕ} (e : key ≡ N) where
-  pub on-work : {t : State} → t ≡ applied (opAt (N % 32) 0) (eqb (N / 32 % 2) 1) k s → reply WentOn 1 0 t ≡ executed (byteOf key false k) s
+-- the main stack is the working stack, or the return stack
+module _ (o : Op) (w k : Bool) (s : State) where
+  pub on-work : {t : State} → t ≡ applied o w k s → t ≡ operated o w false k s
   unfolding operated
-  on-work g = rw e (executed-is N false k s o l g)
+  on-work g = g
 
-  pub on-return : {m d : List ℕ} {t u : Stack} {n : ℕ} → left m d u t n ≡ applied (opAt (N % 32) 0) (eqb (N / 32 % 2) 1) k (exchanged true s)
-      → reply WentOn 1 0 (left m d t u n) ≡ executed (byteOf key true k) s
+  pub on-return : {m d : List ℕ} {t u : Stack} {n : ℕ} → left m d u t n ≡ applied o w k (exchanged true s) → left m d t u n ≡ operated o w true k s
   unfolding operated
-  on-return g = rw e (executed-is N true k s o l (ap (exchanged true) g))
+  on-return g = ap (exchanged true) g
 
 -- ---- the exceptions
 
@@ -193,37 +184,37 @@ decoded = tt
 
 module _ (s : State) {key : ℕ} {k : Bool} where
   pub brk-is : {n : ℕ} → key ≡ 0 → k ≡ false → n ≡ (s .pc + 1) % 65536
-      → reply Broke 1 0 (left (s .memory) (s .devices) (s .work) (s .ret) n) ≡ executed (byteOf key false k) s
+      → reply Broke 1 0 (left (s .memory) (s .devices) (s .work) (s .ret) n) ≡ executed (byteOf key k) s
   unfolding decoded
   brk-is e f hn = rw (e, f, hn)
 
   pub jci-is : {r q : ℕ} → key ≡ 32 → k ≡ false → r ≡ effectOn [] [] ((s .pc + 3) % 65536) (inlined s true) JCI false (s .work) .target
       → q ≡ lowered false 1 (s .work .pointer)
-      → reply WentOn 1 0 (left (s .memory) (s .devices) (stack (s .work .bytes) q) (s .ret) r) ≡ executed (byteOf key false k) s
+      → reply WentOn 1 0 (left (s .memory) (s .devices) (stack (s .work .bytes) q) (s .ret) r) ≡ executed (byteOf key k) s
   unfolding decoded
   jci-is e f hr hq = rw (e, f, hr, hq)
 
-  pub jmi-is : {r : ℕ} → key ≡ 0 → k ≡ false → r ≡ offset ((s .pc + 3) % 65536) (inlined s true)
-      → reply WentOn 1 0 (left (s .memory) (s .devices) (s .work) (s .ret) r) ≡ executed (byteOf key true k) s
+  pub jmi-is : {r : ℕ} → key ≡ 64 → k ≡ false → r ≡ offset ((s .pc + 3) % 65536) (inlined s true)
+      → reply WentOn 1 0 (left (s .memory) (s .devices) (s .work) (s .ret) r) ≡ executed (byteOf key k) s
   unfolding decoded
   jmi-is e f hr = rw (e, f, hr)
 
-  pub jsi-is : {r n : ℕ} {t : Stack} → key ≡ 32 → k ≡ false → r ≡ offset ((s .pc + 3) % 65536) (inlined s true) → n ≡ (s .pc + 3) % 65536
+  pub jsi-is : {r n : ℕ} {t : Stack} → key ≡ 96 → k ≡ false → r ≡ offset ((s .pc + 3) % 65536) (inlined s true) → n ≡ (s .pc + 3) % 65536
       → t ≡ pushed (word (size true) n) (s .ret)
-      → reply WentOn 1 0 (left (s .memory) (s .devices) (s .work) t r) ≡ executed (byteOf key true k) s
+      → reply WentOn 1 0 (left (s .memory) (s .devices) (s .work) t r) ≡ executed (byteOf key k) s
   unfolding decoded
   jsi-is e f hr hn ht = rw (e, f, hr, ht, hn)
 
 pub lit-work : (w : Bool) (s : State) {key : ℕ} {k : Bool} {n : ℕ} {t : Stack} → key ≡ cond w 32 0 → k ≡ true → n ≡ (s .pc + cond w 3 2) % 65536
     → t ≡ pushed (word (size w) (inlined s w)) (s .work)
-    → reply WentOn 1 0 (left (s .memory) (s .devices) t (s .ret) n) ≡ executed (byteOf key false k) s
+    → reply WentOn 1 0 (left (s .memory) (s .devices) t (s .ret) n) ≡ executed (byteOf key k) s
 unfolding decoded
 lit-work true s e f hn ht = rw (e, f, hn, ht)
 lit-work false s e f hn ht = rw (e, f, hn, ht)
 
-pub lit-return : (w : Bool) (s : State) {key : ℕ} {k : Bool} {n : ℕ} {t : Stack} → key ≡ cond w 32 0 → k ≡ true → n ≡ (s .pc + cond w 3 2) % 65536
+pub lit-return : (w : Bool) (s : State) {key : ℕ} {k : Bool} {n : ℕ} {t : Stack} → key ≡ cond w 96 64 → k ≡ true → n ≡ (s .pc + cond w 3 2) % 65536
     → t ≡ pushed (word (size w) (inlined s w)) (s .ret)
-    → reply WentOn 1 0 (left (s .memory) (s .devices) (s .work) t n) ≡ executed (byteOf key true k) s
+    → reply WentOn 1 0 (left (s .memory) (s .devices) (s .work) t n) ≡ executed (byteOf key k) s
 unfolding decoded
 lit-return true s e f hn ht = rw (e, f, hn, ht)
 lit-return false s e f hn ht = rw (e, f, hn, ht)

@@ -18,6 +18,6 @@ after memory devices next o w keep s = mainAfter o w keep (effectOn memory devic
 abbrev pub executed : ℕ → State → Reply
 executed byte s = reply (cond (eqb byte 0x00) Broke WentOn) 1 0 (execute byte s)
 
--- the instruction byte with these low six bits, bit 6 and bit 7
-abbrev pub byteOf : ℕ → Bool → Bool → ℕ
-byteOf key returning keep = key + cond returning 64 0 + cond keep 128 0
+-- the instruction byte with these low seven bits and bit 7
+abbrev pub byteOf : ℕ → Bool → ℕ
+byteOf key keep = key + cond keep 128 0

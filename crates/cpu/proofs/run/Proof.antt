@@ -1,30 +1,30 @@
 use mathlib.Core.Path.{_≡_, sym, _∙_}
-use Prim.Native.Nat.{_-_}
+use Prim.Native.Nat.{_-_, _≤_}
 use native.Mathlib.Omega.{arith}
 use borrow.Author.Needs.{needs}
 use Rattle.model.specs.Machine.{state, Sized}
 use Rattle.model.specs.Run.{run}
-use Rattle.cpu.proofs.Runs.{more, starts, goes-on, ends, spent}
+use Rattle.cpu.proofs.Runs.{more, starts, goes-on, ends, left-is, spent}
 use Rattle.cpu.proofs.run.Statement.{statement}
 use Rattle.cpu.proofs.run.Tie as tie
 
 abbrev Inv-loop : tie.InvT-loop
-Inv-loop memory₀ devices₀ work₀ ret₀ budget pc₀ wp₀ rp₀ steps₀ memory devices work ret pc wp rp steps =
-    Sized (state memory devices work ret (record { pc = pc; wp = wp; rp = rp }))
-    × (more steps (run (budget - steps) (state memory devices work ret (record { pc = pc; wp = wp; rp = rp })))
+Inv-loop memory₀ devices₀ work₀ ret₀ budget pc₀ wp₀ rp₀ left₀ memory devices work ret pc wp rp left =
+    (left ≤ budget) × Sized (state memory devices work ret (record { pc = pc; wp = wp; rp = rp }))
+    × (more (budget - left) (run left (state memory devices work ret (record { pc = pc; wp = wp; rp = rp })))
     ≡ run budget (state memory₀ devices₀ work₀ ret₀ (record { pc = pc₀; wp = wp₀; rp = rp₀ })))
 
 abbrev μ-loop : tie.MeasureT-loop
-μ-loop memory₀ devices₀ work₀ ret₀ budget pc₀ wp₀ rp₀ steps₀ memory devices work ret pc wp rp steps = budget - steps
+μ-loop memory₀ devices₀ work₀ ret₀ budget pc₀ wp₀ rp₀ left₀ memory devices work ret pc wp rp left = left
 
 loop-holds : tie.Need-loop-holds Inv-loop μ-loop
-loop-holds c = (c .before .before .before .before .pre, starts _ _)
+loop-holds c = (omega arith, c .before .before .before .before .pre, starts _ _)
 
 step-requires : tie.Need-step-requires Inv-loop μ-loop
-step-requires c κs = c .before .before .before .before .before .loop .inv .0
+step-requires c κs = c .before .before .before .before .before .loop .inv .1
 
-add-steps : tie.Need-add-steps Inv-loop μ-loop
-add-steps c = omega arith
+sub-left : tie.Need-sub-left Inv-loop μ-loop
+sub-left c = omega arith
 
 enum-known-reply : tie.Need-enum-known-reply Inv-loop μ-loop
 enum-known-reply c = search needs
@@ -45,13 +45,13 @@ same-length-4 : tie.Need-same-length-4 Inv-loop μ-loop
 same-length-4 c = search needs
 
 returns : tie.Need-returns Inv-loop μ-loop
-returns c = rw (c .ended .ensures) (ends _ _ (c .before .before .before .before .before .before .before .before .before .before .before .before .before .before .before .loop-test .taken) _ _ (c .before .before .before .before .before .before .before .before .before .before .step .result) (c .before .match .keys2) (c .before .before .before .before .before .before .before .before .before .before .step .ensures) ∙ c .before .before .before .before .before .before .before .before .before .before .before .before .before .before .before .before .loop .inv .1)
+returns c = rw (c .ended .ensures) (ends _ _ _ (omega arith) (c .before .before .before .before .before .before .before .before .before .before .before .before .before .before .before .before .loop .inv .0) _ _ (c .before .before .before .before .before .before .before .before .before .before .step .result) (c .before .match .keys2) (c .before .before .before .before .before .before .before .before .before .before .step .ensures) ∙ c .before .before .before .before .before .before .before .before .before .before .before .before .before .before .before .before .loop .inv .2, left-is (c .before .before .before .before .before .before .before .before .before .before .step .result) _ (omega arith))
 
 loop-less : tie.Need-loop-less Inv-loop μ-loop
 loop-less c = omega arith
 
 loop-again : tie.Need-loop-again Inv-loop μ-loop
-loop-again c = (search needs, sym (goes-on _ _ (c .before .before .before .before .before .before .before .before .before .before .before .before .before .before .before .before .loop-test .taken) _ _ _ (c .before .reply .given .1) (c .before .before .before .before .before .before .before .before .before .before .before .step .ensures)) ∙ c .before .before .before .before .before .before .before .before .before .before .before .before .before .before .before .before .before .loop .inv .1)
+loop-again c = (omega arith, search needs, sym (goes-on _ _ _ (omega arith) (c .before .before .before .before .before .before .before .before .before .before .before .before .before .before .before .before .before .loop .inv .0) _ _ _ (c .before .reply .given .1) (c .before .before .before .before .before .before .before .before .before .before .before .step .ensures)) ∙ c .before .before .before .before .before .before .before .before .before .before .before .before .before .before .before .before .before .loop .inv .2)
 
 same-length-5 : tie.Need-same-length-5 Inv-loop μ-loop
 same-length-5 c = search needs
@@ -66,7 +66,7 @@ same-length-8 : tie.Need-same-length-8 Inv-loop μ-loop
 same-length-8 c = search needs
 
 returns-2 : tie.Need-returns-2 Inv-loop μ-loop
-returns-2 c = spent _ _ _ (c .loop-test .left) ∙ c .before .loop .inv .1
+returns-2 c = (spent _ _ _ (c .loop-test .left) ∙ c .before .loop .inv .2, omega arith)
 
 pub run-spec : {M : Type 1} → statement M
 run-spec =
@@ -76,7 +76,7 @@ run-spec =
     μ-loop
     loop-holds
     step-requires
-    add-steps
+    sub-left
     enum-known-reply
     ended-requires
     same-length

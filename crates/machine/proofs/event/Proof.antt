@@ -1,4 +1,5 @@
 use Rattle.machine.proofs.Calls as calls
+use mathlib.Core.Path.{_∙_}
 use native.Mathlib.Omega.{arith}
 use Rattle.model.specs.Calls.{eventCall}
 use borrow.Author.Needs.{needs}
@@ -21,7 +22,7 @@ run-requires c κs = calls.resized _ _ _ _ (c .before .before .before .before .b
 
 returns-3 : tie.Need-returns-3
 unfolding eventCall
-returns-3 c = calls.taken _ _ _ (c .before .before .before .before .before .before .before .before .before .before .before .before .before .before .before .before .before .before .event-refusal .ensures _) (c .before .before .before .before .before .before .before .before .before .before .before .before .before .before .before .before .before .if1 .left) (calls.runs-from _ _ _ (calls.vector-is _ _ (omega arith) (c .before .before .before .before .before .before .before .before .before .before .before .before .before .before .before .input .ensures)) (c .before .before .before .before .before .before .before .before .before .before .before .before .before .before .if2 .left) (rw (c .event-of .ensures) (calls.event-is _ _ _ (c .before .before .before .before .before .before .before .before .before .run .result) (c .before .before .before .before .before .before .before .before .before .run .ensures))))
+returns-3 c = calls.taken _ _ _ (c .before .before .before .before .before .before .before .before .before .before .before .before .before .before .before .before .before .before .event-refusal .ensures _) (c .before .before .before .before .before .before .before .before .before .before .before .before .before .before .before .before .before .if1 .left) (calls.runs-from _ _ _ (calls.vector-is _ _ (omega arith) (c .before .before .before .before .before .before .before .before .before .before .before .before .before .before .before .input .ensures)) (c .before .before .before .before .before .before .before .before .before .before .before .before .before .before .if2 .left) (rw (c .event-of .ensures) (calls.event-is _ _ (c .before .before .before .before .before .before .before .before .before .run .result) ∙ c .before .before .before .before .before .before .before .before .before .run .ensures .0)))
 
 pub event-spec : {M : Type 1} → statement M
 event-spec =

@@ -1,7 +1,8 @@
 use Rattle.machine.proofs.Calls as calls
 use native.Mathlib.Omega.{arith}
-use mathlib.Core.Path.{_≡_, refl}
-use Rattle.model.specs.Calls.{frameCall}
+use mathlib.Core.Path.{ap, _∙_}
+use Rattle.model.specs.Run.{run}
+use Rattle.model.specs.Calls.{frameCall, withVerdict}
 use borrow.Author.Needs.{needs}
 use Rattle.machine.proofs.frame.Statement.{statement}
 use Rattle.machine.proofs.frame.Tie as tie
@@ -24,7 +25,7 @@ verdict-requires c κs = let z = calls.frame-taken _ _ (c .before .before .befor
 
 returns-2 : tie.Need-returns-2
 unfolding frameCall
-returns-2 c = calls.taken _ _ _ (c .before .before .before .before .before .before .before .before .before .before .before .before .before .before .before .before .before .before .before .before .before .before .before .before .before .frame-refusal .ensures _) (c .before .before .before .before .before .before .before .before .before .before .before .before .before .before .before .before .before .before .before .before .before .before .before .before .if1 .left) (rw (c .frame-of .ensures) (calls.frame-is _ _ _ _ (c .before .before .before .before .before .before .before .before .before .before .before .run .result) _ (λ m. c .before .verdict .ensures) (calls.framed-is _ _ (c .before .before .before .before .before .before .before .before .before .before .before .before .before .before .before .before .before .before .before .before .before .before .frame-memory .ensures) (c .before .before .before .before .before .before .before .before .before .before .before .before .before .before .before .before .before .before .clear-verdict .ensures)) (c .before .before .before .before .before .before .before .before .before .before .before .run .ensures)))
+returns-2 c = calls.taken _ _ _ (c .before .before .before .before .before .before .before .before .before .before .before .before .before .before .before .before .before .before .before .before .before .before .before .before .before .frame-refusal .ensures _) (c .before .before .before .before .before .before .before .before .before .before .before .before .before .before .before .before .before .before .before .before .before .before .before .before .if1 .left) (rw (c .frame-of .ensures) (calls.frame-is _ _ _ (c .before .before .before .before .before .before .before .before .before .before .before .run .result) (λ m. c .before .verdict .ensures) ∙ ap withVerdict (c .before .before .before .before .before .before .before .before .before .before .before .run .ensures .0 ∙ ap (run _) (calls.framed-is _ _ (c .before .before .before .before .before .before .before .before .before .before .before .before .before .before .before .before .before .before .before .before .before .before .frame-memory .ensures) (c .before .before .before .before .before .before .before .before .before .before .before .before .before .before .before .before .before .before .clear-verdict .ensures)))))
 
 pub frame-spec : {M : Type 1} → statement M
 frame-spec =

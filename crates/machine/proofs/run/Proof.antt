@@ -1,4 +1,5 @@
 use Rattle.machine.proofs.Calls as calls
+use mathlib.Core.Path.{_∙_}
 use Rattle.model.specs.Calls.{runCall}
 use borrow.Author.Needs.{needs}
 use Rattle.machine.proofs.run.Statement.{statement}
@@ -13,7 +14,7 @@ run-requires c κs = calls.sized _ (c .before .before .before .before .before .w
 
 returns-2 : tie.Need-returns-2
 unfolding runCall
-returns-2 c = calls.taken _ _ _ (c .before .before .before .before .before .before .before .before .before .before .before .before .before .before .wrong-length .ensures _) (c .before .before .before .before .before .before .before .before .before .before .before .before .before .if1 .left) (c .before .before .before .before .before .before .before .before .run .ensures)
+returns-2 c = calls.taken _ _ _ (c .before .before .before .before .before .before .before .before .before .before .before .before .before .before .before .wrong-length .ensures _) (c .before .before .before .before .before .before .before .before .before .before .before .before .before .before .if1 .left) (rw (c .run-of .ensures) (calls.run-is _ _ (c .before .before .before .before .before .before .before .before .before .run .result) ∙ c .before .before .before .before .before .before .before .before .before .run .ensures .0))
 
 pub run-spec : {M : Type 1} → statement M
 run-spec =
@@ -26,6 +27,7 @@ run-spec =
     (λ c. search needs)
     returns
     run-requires
+    (λ c κs. search needs)
     (λ c. search needs)
     (λ c. search needs)
     (λ c. search needs)

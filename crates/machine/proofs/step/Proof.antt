@@ -13,7 +13,7 @@ run-requires c κs = calls.sized _ (c .before .before .before .before .before .w
 
 returns-2 : tie.Need-returns-2
 unfolding stepCall
-returns-2 c = calls.taken _ _ _ (c .before .before .before .before .before .before .before .before .before .before .before .before .before .before .before .wrong-length .ensures _) (c .before .before .before .before .before .before .before .before .before .before .before .before .before .before .if1 .left) (rw (c .step-of .ensures) (calls.step-is _ _ (c .before .before .before .before .before .before .before .before .before .run .result) (c .before .before .before .before .before .before .before .before .before .run .ensures)))
+returns-2 c = calls.taken _ _ _ (c .before .before .before .before .before .before .before .before .before .before .before .before .before .before .before .wrong-length .ensures _) (c .before .before .before .before .before .before .before .before .before .before .before .before .before .before .if1 .left) (rw (c .step-of .ensures) (calls.step-is _ _ (c .before .before .before .before .before .before .before .before .before .run .result) (c .before .before .before .before .before .before .before .before .before .run .ensures .0)))
 
 pub step-spec : {M : Type 1} → statement M
 step-spec =

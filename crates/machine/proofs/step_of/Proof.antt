@@ -3,13 +3,10 @@ use Rattle.machine.proofs.step_of.Statement.{statement}
 use Rattle.machine.proofs.step_of.Tie as tie
 
 returns : tie.Need-returns
-returns c = rw (c .before .reply .given .1)
+returns c = rw (c .before .end .given .1)
 
 returns-2 : tie.Need-returns-2
-returns-2 c = rw (c .before .reply2 .given .1)
-
-returns-3 : tie.Need-returns-3
-returns-3 c = rw (c .before .reply3 .given .1)
+returns-2 c = rw (c .before .end2 .given .1)
 
 pub step-of-spec : {M : Type 1} → statement M
 step-of-spec =
@@ -17,7 +14,5 @@ step-of-spec =
     (tie.spec
     (λ c. search needs)
     (λ c. search needs)
-    (λ c. search needs)
     returns
-    returns-2
-    returns-3)
+    returns-2)

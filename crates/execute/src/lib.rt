@@ -1,4 +1,5 @@
-// The instruction bytes whose main stack is the working stack, by their low six bits: bit 6 is clear, and keep is bit 7.
+// One instruction, by the low seven bits of its byte: below 40 its main stack is the working stack, from 40 on the return
+// stack; bit 7 is keep.
 use model::Machine;
 use model::StepReply;
 use operations::compare;
@@ -15,6 +16,7 @@ use operations::ldr;
 use operations::ldz;
 use operations::lit;
 use operations::nip;
+use operations::offset;
 use operations::ovr;
 use operations::pop;
 use operations::rot;
@@ -28,13 +30,12 @@ use stack::lower;
 use stack::push;
 use std::num::wrapping_add_u16;
 ghost use mathlib.Core.Path.{_≡_};
-ghost use mathlib.Core.Bool.{false};
 ghost use Prim.Native.Nat.{_<_};
 ghost use Rattle.model.specs.Machine.{state, Sized};
 ghost use Rattle.model.specs.Replies.{ofStep};
 ghost use Rattle.operations.specs.After.{executed, byteOf};
 
-pub fn execute_work(
+pub fn execute(
     m: Machine,
     memory: &mut [u8],
     devices: &mut [u8],
@@ -43,9 +44,9 @@ pub fn execute_work(
     key: u8,
     keep: bool,
 ) -> StepReply
-    requires { ⌜ Sized (state (now memory) (now devices) (now work) (now ret) m) × (key < 64) ⌝ }
+    requires { ⌜ Sized (state (now memory) (now devices) (now work) (now ret) m) × (key < 128) ⌝ }
     ensures { λ r. ⌜ ofStep (state (now (memory .exit)) (now (devices .exit)) (now (work .exit)) (now (ret .exit))) r
-        ≡ executed (byteOf key false keep) (state (now (memory .entry)) (now (devices .entry)) (now (work .entry)) (now (ret .entry)) m) ⌝ }
+        ≡ executed (byteOf key keep) (state (now (memory .entry)) (now (devices .entry)) (now (work .entry)) (now (ret .entry)) m) ⌝ }
 {
     let at = m.pc;
     let pc = wrapping_add_u16(at, 1);
@@ -421,10 +422,388 @@ pub fn execute_work(
             wp: compute(work, wp, true, keep, 6),
             rp,
         }),
-        _ => StepReply::WentOn(Machine {
+        0x3f => StepReply::WentOn(Machine {
             pc,
             wp: sft(work, wp, true, keep),
             rp,
+        }),
+        0x40 => {
+            if keep {
+                StepReply::WentOn(Machine {
+                    pc: wrapping_add_u16(at, 2),
+                    wp,
+                    rp: lit(memory, ret, at, rp, false),
+                })
+            } else {
+                StepReply::WentOn(Machine {
+                    pc: offset(memory, at),
+                    wp,
+                    rp,
+                })
+            }
+        }
+        0x41 => StepReply::WentOn(Machine {
+            pc,
+            wp,
+            rp: inc(ret, rp, false, keep),
+        }),
+        0x42 => StepReply::WentOn(Machine {
+            pc,
+            wp,
+            rp: pop(ret, rp, false, keep),
+        }),
+        0x43 => StepReply::WentOn(Machine {
+            pc,
+            wp,
+            rp: nip(ret, rp, false, keep),
+        }),
+        0x44 => StepReply::WentOn(Machine {
+            pc,
+            wp,
+            rp: swp(ret, rp, false, keep),
+        }),
+        0x45 => StepReply::WentOn(Machine {
+            pc,
+            wp,
+            rp: rot(ret, rp, false, keep),
+        }),
+        0x46 => StepReply::WentOn(Machine {
+            pc,
+            wp,
+            rp: dup(ret, rp, false, keep),
+        }),
+        0x47 => StepReply::WentOn(Machine {
+            pc,
+            wp,
+            rp: ovr(ret, rp, false, keep),
+        }),
+        0x48 => StepReply::WentOn(Machine {
+            pc,
+            wp,
+            rp: compare(ret, rp, false, keep, 0),
+        }),
+        0x49 => StepReply::WentOn(Machine {
+            pc,
+            wp,
+            rp: compare(ret, rp, false, keep, 1),
+        }),
+        0x4a => StepReply::WentOn(Machine {
+            pc,
+            wp,
+            rp: compare(ret, rp, false, keep, 2),
+        }),
+        0x4b => StepReply::WentOn(Machine {
+            pc,
+            wp,
+            rp: compare(ret, rp, false, keep, 3),
+        }),
+        0x4c => StepReply::WentOn(Machine {
+            pc: jmp(ret, rp, pc, false),
+            wp,
+            rp: lower(rp, keep, 1),
+        }),
+        0x4d => StepReply::WentOn(Machine {
+            pc: jcn(ret, rp, pc, false),
+            wp,
+            rp: lower(rp, keep, 2),
+        }),
+        0x4e => {
+            let target = jmp(ret, rp, pc, false);
+            let up = push(work, wp, true, pc);
+            StepReply::WentOn(Machine {
+                pc: target,
+                wp: up,
+                rp: lower(rp, keep, 1),
+            })
+        }
+        0x4f => {
+            let up = sth(ret, rp, work, wp, false);
+            StepReply::WentOn(Machine {
+                pc,
+                wp: up,
+                rp: lower(rp, keep, 1),
+            })
+        }
+        0x50 => StepReply::WentOn(Machine {
+            pc,
+            wp,
+            rp: ldz(memory, ret, rp, false, keep),
+        }),
+        0x51 => {
+            stz(memory, ret, rp, false);
+            StepReply::WentOn(Machine {
+                pc,
+                wp,
+                rp: lower(rp, keep, 2),
+            })
+        }
+        0x52 => StepReply::WentOn(Machine {
+            pc,
+            wp,
+            rp: ldr(memory, ret, pc, rp, false, keep),
+        }),
+        0x53 => {
+            str(memory, ret, pc, rp, false);
+            StepReply::WentOn(Machine {
+                pc,
+                wp,
+                rp: lower(rp, keep, 2),
+            })
+        }
+        0x54 => StepReply::WentOn(Machine {
+            pc,
+            wp,
+            rp: lda(memory, ret, rp, false, keep),
+        }),
+        0x55 => {
+            sta(memory, ret, rp, false);
+            StepReply::WentOn(Machine {
+                pc,
+                wp,
+                rp: lower(rp, keep, 3),
+            })
+        }
+        0x56 => StepReply::WentOn(Machine {
+            pc,
+            wp,
+            rp: dei(devices, ret, rp, false, keep),
+        }),
+        0x57 => {
+            deo(devices, ret, rp, false);
+            StepReply::WentOn(Machine {
+                pc,
+                wp,
+                rp: lower(rp, keep, 2),
+            })
+        }
+        0x58 => StepReply::WentOn(Machine {
+            pc,
+            wp,
+            rp: compute(ret, rp, false, keep, 0),
+        }),
+        0x59 => StepReply::WentOn(Machine {
+            pc,
+            wp,
+            rp: compute(ret, rp, false, keep, 1),
+        }),
+        0x5a => StepReply::WentOn(Machine {
+            pc,
+            wp,
+            rp: compute(ret, rp, false, keep, 2),
+        }),
+        0x5b => StepReply::WentOn(Machine {
+            pc,
+            wp,
+            rp: compute(ret, rp, false, keep, 3),
+        }),
+        0x5c => StepReply::WentOn(Machine {
+            pc,
+            wp,
+            rp: compute(ret, rp, false, keep, 4),
+        }),
+        0x5d => StepReply::WentOn(Machine {
+            pc,
+            wp,
+            rp: compute(ret, rp, false, keep, 5),
+        }),
+        0x5e => StepReply::WentOn(Machine {
+            pc,
+            wp,
+            rp: compute(ret, rp, false, keep, 6),
+        }),
+        0x5f => StepReply::WentOn(Machine {
+            pc,
+            wp,
+            rp: sft(ret, rp, false, keep),
+        }),
+        0x60 => {
+            if keep {
+                StepReply::WentOn(Machine {
+                    pc: wrapping_add_u16(at, 3),
+                    wp,
+                    rp: lit(memory, ret, at, rp, true),
+                })
+            } else {
+                StepReply::WentOn(Machine {
+                    pc: offset(memory, at),
+                    wp,
+                    rp: push(ret, rp, true, wrapping_add_u16(at, 3)),
+                })
+            }
+        }
+        0x61 => StepReply::WentOn(Machine {
+            pc,
+            wp,
+            rp: inc(ret, rp, true, keep),
+        }),
+        0x62 => StepReply::WentOn(Machine {
+            pc,
+            wp,
+            rp: pop(ret, rp, true, keep),
+        }),
+        0x63 => StepReply::WentOn(Machine {
+            pc,
+            wp,
+            rp: nip(ret, rp, true, keep),
+        }),
+        0x64 => StepReply::WentOn(Machine {
+            pc,
+            wp,
+            rp: swp(ret, rp, true, keep),
+        }),
+        0x65 => StepReply::WentOn(Machine {
+            pc,
+            wp,
+            rp: rot(ret, rp, true, keep),
+        }),
+        0x66 => StepReply::WentOn(Machine {
+            pc,
+            wp,
+            rp: dup(ret, rp, true, keep),
+        }),
+        0x67 => StepReply::WentOn(Machine {
+            pc,
+            wp,
+            rp: ovr(ret, rp, true, keep),
+        }),
+        0x68 => StepReply::WentOn(Machine {
+            pc,
+            wp,
+            rp: compare(ret, rp, true, keep, 0),
+        }),
+        0x69 => StepReply::WentOn(Machine {
+            pc,
+            wp,
+            rp: compare(ret, rp, true, keep, 1),
+        }),
+        0x6a => StepReply::WentOn(Machine {
+            pc,
+            wp,
+            rp: compare(ret, rp, true, keep, 2),
+        }),
+        0x6b => StepReply::WentOn(Machine {
+            pc,
+            wp,
+            rp: compare(ret, rp, true, keep, 3),
+        }),
+        0x6c => StepReply::WentOn(Machine {
+            pc: jmp(ret, rp, pc, true),
+            wp,
+            rp: lower(rp, keep, 2),
+        }),
+        0x6d => StepReply::WentOn(Machine {
+            pc: jcn(ret, rp, pc, true),
+            wp,
+            rp: lower(rp, keep, 3),
+        }),
+        0x6e => {
+            let target = jmp(ret, rp, pc, true);
+            let up = push(work, wp, true, pc);
+            StepReply::WentOn(Machine {
+                pc: target,
+                wp: up,
+                rp: lower(rp, keep, 2),
+            })
+        }
+        0x6f => {
+            let up = sth(ret, rp, work, wp, true);
+            StepReply::WentOn(Machine {
+                pc,
+                wp: up,
+                rp: lower(rp, keep, 2),
+            })
+        }
+        0x70 => StepReply::WentOn(Machine {
+            pc,
+            wp,
+            rp: ldz(memory, ret, rp, true, keep),
+        }),
+        0x71 => {
+            stz(memory, ret, rp, true);
+            StepReply::WentOn(Machine {
+                pc,
+                wp,
+                rp: lower(rp, keep, 3),
+            })
+        }
+        0x72 => StepReply::WentOn(Machine {
+            pc,
+            wp,
+            rp: ldr(memory, ret, pc, rp, true, keep),
+        }),
+        0x73 => {
+            str(memory, ret, pc, rp, true);
+            StepReply::WentOn(Machine {
+                pc,
+                wp,
+                rp: lower(rp, keep, 3),
+            })
+        }
+        0x74 => StepReply::WentOn(Machine {
+            pc,
+            wp,
+            rp: lda(memory, ret, rp, true, keep),
+        }),
+        0x75 => {
+            sta(memory, ret, rp, true);
+            StepReply::WentOn(Machine {
+                pc,
+                wp,
+                rp: lower(rp, keep, 4),
+            })
+        }
+        0x76 => StepReply::WentOn(Machine {
+            pc,
+            wp,
+            rp: dei(devices, ret, rp, true, keep),
+        }),
+        0x77 => {
+            deo(devices, ret, rp, true);
+            StepReply::WentOn(Machine {
+                pc,
+                wp,
+                rp: lower(rp, keep, 3),
+            })
+        }
+        0x78 => StepReply::WentOn(Machine {
+            pc,
+            wp,
+            rp: compute(ret, rp, true, keep, 0),
+        }),
+        0x79 => StepReply::WentOn(Machine {
+            pc,
+            wp,
+            rp: compute(ret, rp, true, keep, 1),
+        }),
+        0x7a => StepReply::WentOn(Machine {
+            pc,
+            wp,
+            rp: compute(ret, rp, true, keep, 2),
+        }),
+        0x7b => StepReply::WentOn(Machine {
+            pc,
+            wp,
+            rp: compute(ret, rp, true, keep, 3),
+        }),
+        0x7c => StepReply::WentOn(Machine {
+            pc,
+            wp,
+            rp: compute(ret, rp, true, keep, 4),
+        }),
+        0x7d => StepReply::WentOn(Machine {
+            pc,
+            wp,
+            rp: compute(ret, rp, true, keep, 5),
+        }),
+        0x7e => StepReply::WentOn(Machine {
+            pc,
+            wp,
+            rp: compute(ret, rp, true, keep, 6),
+        }),
+        _ => StepReply::WentOn(Machine {
+            pc,
+            wp,
+            rp: sft(ret, rp, true, keep),
         }),
     }
 }

@@ -1,0 +1,125 @@
+//! The C interface: records, replies and the shapes of the five calls.
+
+pub const MEMORY: usize = 65_536;
+pub const PAGE: usize = 256;
+pub const RECORD: usize = 64;
+pub const PROGRAM_START: u16 = 0x0100;
+/// A program fills memory from 0100 to FFFF at most.
+pub const PROGRAM_LIMIT: usize = MEMORY - PROGRAM_START as usize;
+
+pub const REFUSED: u8 = 0;
+pub const LOADED: u8 = 1;
+pub const WENT_ON: u8 = 2;
+pub const BROKE: u8 = 3;
+pub const SPENT: u8 = 4;
+pub const IGNORED: u8 = 5;
+
+/// The machine record: program counter, working and return stack pointer.
+#[repr(C)]
+#[derive(Clone, Copy, PartialEq, Eq, Debug, Default)]
+pub struct Machine {
+    pub pc: u16,
+    pub wp: u8,
+    pub rp: u8,
+}
+
+#[repr(C)]
+#[derive(Clone, Copy, PartialEq, Eq, Debug)]
+pub struct Reply {
+    pub machine: Machine,
+    pub steps: u32,
+    pub number: u8,
+    pub answer: u8,
+    pub verdict: u8,
+}
+
+const _: () = assert!(size_of::<Machine>() == 4 && size_of::<Reply>() == 12);
+
+/// The four buffers that every call is lent.
+pub struct Buffers<'a> {
+    pub memory: &'a mut [u8],
+    pub device_page: &'a mut [u8],
+    pub working: &'a mut [u8],
+    pub ret: &'a mut [u8],
+}
+
+/// Four buffers of the right lengths, all zero.
+#[derive(Clone, PartialEq, Eq)]
+pub struct Owned {
+    pub memory: Vec<u8>,
+    pub device_page: Vec<u8>,
+    pub working: Vec<u8>,
+    pub ret: Vec<u8>,
+}
+
+impl Owned {
+    pub fn new() -> Owned {
+        Owned {
+            memory: vec![0; MEMORY],
+            device_page: vec![0; PAGE],
+            working: vec![0; PAGE],
+            ret: vec![0; PAGE],
+        }
+    }
+
+    /// The same bytes in place.
+    pub fn copy_from(&mut self, from: &Owned) {
+        self.memory.copy_from_slice(&from.memory);
+        self.device_page.copy_from_slice(&from.device_page);
+        self.working.copy_from_slice(&from.working);
+        self.ret.copy_from_slice(&from.ret);
+    }
+
+    pub fn lend(&mut self) -> Buffers<'_> {
+        Buffers {
+            memory: &mut self.memory,
+            device_page: &mut self.device_page,
+            working: &mut self.working,
+            ret: &mut self.ret,
+        }
+    }
+}
+
+impl Default for Owned {
+    fn default() -> Owned {
+        Owned::new()
+    }
+}
+
+/// Declares a C function that has the shape of the calls, and gives it a safe face in slices.
+#[macro_export]
+macro_rules! c_call {
+    ($name:ident = $symbol:literal $(, slice $slice:ident)? $(, number $number:ident: $type:ty)*) => {
+        pub fn $name(
+            machine: $crate::calls::Machine,
+            lent: $crate::calls::Buffers,
+            $($slice: &[u8],)?
+            $($number: $type,)*
+        ) -> $crate::calls::Reply {
+            extern "C" {
+                #[link_name = $symbol]
+                fn call(
+                    machine: $crate::calls::Machine,
+                    memory: *mut u8, memory_length: usize,
+                    device_page: *mut u8, device_page_length: usize,
+                    working: *mut u8, working_length: usize,
+                    ret: *mut u8, ret_length: usize,
+                    $($slice: *const u8, length: usize,)?
+                    $($number: $type,)*
+                ) -> $crate::calls::Reply;
+            }
+            // Each pointer is that of a live slice with its length, and no two of them overlap.
+            unsafe {
+                call(
+                    machine,
+                    lent.memory.as_mut_ptr(), lent.memory.len(),
+                    lent.device_page.as_mut_ptr(), lent.device_page.len(),
+                    lent.working.as_mut_ptr(), lent.working.len(),
+                    lent.ret.as_mut_ptr(), lent.ret.len(),
+                    $($slice.as_ptr(), $slice.len(),)?
+                    $($number,)*
+                )
+            }
+        }
+    };
+}

@@ -1,0 +1,138 @@
+//! Timing of the cores, interleaved: in each round every core has its turn, and of each core the
+//! shortest turn counts.
+
+use std::hint::black_box;
+use std::time::Instant;
+
+use crate::calls::{Buffers, Owned, Reply};
+use crate::peers::{Core, Kind};
+use crate::workloads::{filter, prepared, record, Workload};
+
+/// Budget of the timed frame calls.
+const FRAME_BUDGET: u32 = 10_000;
+/// A load is so many times as long as a frame call, about, and is repeated so much less.
+const FRAMES_IN_A_LOAD: u32 = 20;
+
+type Call<'a> = &'a dyn Fn(&Core, Buffers) -> Reply;
+
+/// A measure, and its number for each core, in the order of the cores.
+pub struct Row {
+    pub name: String,
+    pub numbers: Vec<f64>,
+}
+
+impl Row {
+    /// The library's number over the smallest of the C peers.
+    pub fn ratio(&self, cores: &[Core]) -> f64 {
+        let least = |kind| {
+            let pairs = cores.iter().zip(&self.numbers);
+            let of_kind = pairs.filter(|(core, _)| core.kind == kind);
+            of_kind.fold(f64::INFINITY, |least, (_, &number)| least.min(number))
+        };
+        least(Kind::Library) / least(Kind::C)
+    }
+}
+
+pub fn mean_ratio(cores: &[Core], rows: &[Row]) -> f64 {
+    let sum: f64 = rows.iter().map(|row| row.ratio(cores)).sum();
+    sum / rows.len() as f64
+}
+
+/// Panics unless all cores end in the same state, byte for byte.
+pub fn check_same_end(cores: &[Core], workload: &Workload, steps: u32) {
+    let mut ends = Vec::new();
+    for core in cores {
+        let (machine, mut owned) = prepared(&workload.program);
+        let reply = (core.run)(machine, owned.lend(), steps);
+        assert_eq!(reply.steps, steps, "{} goes on for ever", workload.name);
+        ends.push((reply, owned));
+        let same = ends.last() == ends.first();
+        assert!(
+            same,
+            "{}: {} ends in another state",
+            workload.name, core.name
+        );
+    }
+}
+
+/// Nanoseconds a step.
+pub fn time_runs(cores: &[Core], workload: &Workload, rounds: u32, steps: u32) -> Row {
+    let (machine, start) = prepared(&workload.program);
+    let mut owned = start.clone();
+    let numbers = least_times(cores, rounds, |core| {
+        owned.copy_from(&start);
+        let from = Instant::now();
+        black_box((core.run)(machine, owned.lend(), steps));
+        nanoseconds_since(from) / f64::from(steps)
+    });
+    Row {
+        name: workload.name.to_owned(),
+        numbers,
+    }
+}
+
+/// Nanoseconds of whole calls: a frame that is judged, a frame that is refused, a load.
+pub fn time_calls(cores: &[Core], rounds: u32, repeats: u32) -> Vec<Row> {
+    let program = filter();
+    let good = record();
+    let mut bad = good;
+    bad[63] = 1;
+    let (machine, mut owned) = prepared(&program);
+
+    let load = |core: &Core, lent: Buffers| (core.load)(machine, lent, black_box(&program));
+    let judge =
+        |core: &Core, lent: Buffers| (core.frame)(machine, lent, black_box(&good), FRAME_BUDGET);
+    let refuse =
+        |core: &Core, lent: Buffers| (core.frame)(machine, lent, black_box(&bad), FRAME_BUDGET);
+
+    let mut ends = Vec::new();
+    for core in cores {
+        let loaded = load(core, owned.lend());
+        let judged = judge(core, owned.lend());
+        let refused = refuse(core, owned.lend());
+        ends.push(([loaded, judged, refused], owned.clone()));
+        let same = ends.last() == ends.first();
+        assert!(same, "{}: load or frame ends in another state", core.name);
+    }
+    let steps = ends[0].0[1].steps;
+
+    let calls: [(String, u32, Call); 3] = [
+        (format!("frame, {steps} steps"), repeats, &judge),
+        ("frame, refused".to_owned(), repeats, &refuse),
+        ("load".to_owned(), repeats / FRAMES_IN_A_LOAD, &load),
+    ];
+    calls
+        .into_iter()
+        .map(|(name, repeats, call)| Row {
+            name,
+            numbers: least_times(cores, rounds, |core| {
+                time_repeated(repeats, &mut owned, |lent| call(core, lent))
+            }),
+        })
+        .collect()
+}
+
+/// Nanoseconds a call.
+fn time_repeated(repeats: u32, owned: &mut Owned, call: impl Fn(Buffers) -> Reply) -> f64 {
+    let from = Instant::now();
+    for _ in 0..repeats {
+        black_box(call(owned.lend()));
+    }
+    nanoseconds_since(from) / f64::from(repeats)
+}
+
+fn least_times(cores: &[Core], rounds: u32, mut time: impl FnMut(&Core) -> f64) -> Vec<f64> {
+    let mut least = vec![f64::INFINITY; cores.len()];
+    for round in 0..rounds as usize {
+        for turn in 0..cores.len() {
+            // Another core begins each round.
+            let place = (round + turn) % cores.len();
+            least[place] = least[place].min(time(&cores[place]));
+        }
+    }
+    least
+}
+
+fn nanoseconds_since(from: Instant) -> f64 {
+    from.elapsed().as_nanos() as f64
+}

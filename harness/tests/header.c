@@ -1,0 +1,51 @@
+/* Every call that include/uxn_filter.h declares, as a C program makes it. Prints one line for each, for tests/header.rs. */
+#include <stddef.h>
+#include <stdint.h>
+#include <stdio.h>
+#include <string.h>
+
+#include "uxn_filter.h"
+
+_Static_assert(sizeof(uxn_machine) == 4, "the machine record");
+_Static_assert(sizeof(uxn_reply) == 12, "the reply");
+_Static_assert(offsetof(uxn_reply, steps) == 4, "steps");
+_Static_assert(offsetof(uxn_reply, number) == 8, "number");
+_Static_assert(offsetof(uxn_reply, answer) == 9, "answer");
+_Static_assert(offsetof(uxn_reply, verdict) == 10, "verdict");
+
+static uint8_t memory[65536], device_page[256], working[256], ret[256];
+
+#define BUFFERS memory, sizeof memory, device_page, sizeof device_page, working, sizeof working, ret, sizeof ret
+
+static void say(const char *call, uxn_reply r)
+{
+    printf("%s: answer %u, number %u, steps %u, verdict %u, pc %04x, wp %u, rp %u\n", call, r.answer, r.number, (unsigned)r.steps,
+           r.verdict, r.machine.pc, r.machine.wp, r.machine.rp);
+}
+
+int main(void)
+{
+    /* port F2 gets 1, then BRK: every frame is passed */
+    static const uint8_t program[] = {0x80, 0x01, 0x80, 0xf2, 0x17, 0x00};
+    uint8_t record[64];
+    uxn_machine machine = {0x1234, 5, 6};
+    uxn_reply reply;
+
+    memset(record, 0, sizeof record);
+    reply = uxn_load(machine, BUFFERS, program, sizeof program);
+    say("load", reply);
+    reply = uxn_step(reply.machine, BUFFERS);
+    say("step", reply);
+    reply = uxn_run(reply.machine, BUFFERS, 2);
+    say("run", reply);
+    reply = uxn_frame(reply.machine, BUFFERS, record, sizeof record, 100);
+    say("frame", reply);
+    reply = uxn_event(reply.machine, BUFFERS, 15, 100);
+    say("event", reply);
+    device_page[0xf0] = 0x01;
+    reply = uxn_event(reply.machine, BUFFERS, 15, 100);
+    say("event", reply);
+    reply = uxn_frame(reply.machine, BUFFERS, record, sizeof record - 1, 100);
+    say("frame", reply);
+    return 0;
+}

@@ -1,0 +1,94 @@
+//! A soak: rounds of every kind of call, each with a seed of its own. SOAK gives its minutes;
+//! without it the soak is a few seconds long. SEED gives the first seed; a soak of minutes without
+//! it takes one from the clock.
+
+use std::time::{Duration, Instant, SystemTime, UNIX_EPOCH};
+
+use uxn_filter_harness::calls::{BROKE, PROGRAM_LIMIT, RECORD};
+use uxn_filter_harness::pair::{say, Pair, Part};
+use uxn_filter_harness::programs::{grammar_made, random_bytes};
+use uxn_filter_harness::random::{given, Random};
+
+#[test]
+fn soak() {
+    let minutes = given("SOAK");
+    let time = match minutes {
+        Some(minutes) => Duration::from_secs(60 * minutes),
+        None => Duration::from_secs(3),
+    };
+    let first = match (given("SEED"), minutes) {
+        (Some(seed), _) => seed,
+        (None, Some(_)) => clock(),
+        (None, None) => 1,
+    };
+    let start = Instant::now();
+    let mut said = start;
+    let mut seed = first;
+    let mut steps = 0;
+    while start.elapsed() < time {
+        steps += round(seed);
+        seed = seed.wrapping_add(1);
+        if said.elapsed() > Duration::from_secs(60) {
+            said = Instant::now();
+            say(&format!(
+                "soak: seeds {first} to {seed}, {steps} compared steps"
+            ));
+        }
+    }
+    let rounds = seed.wrapping_sub(first);
+    say(&format!(
+        "soak: {rounds} rounds from seed {first}, {steps} compared steps"
+    ));
+}
+
+fn clock() -> u64 {
+    let now = SystemTime::now().duration_since(UNIX_EPOCH).unwrap();
+    now.as_secs()
+}
+
+/// Some thousands of compared steps, whose number it returns, and some compared calls of every
+/// kind.
+fn round(seed: u64) -> u64 {
+    let mut pair = Pair::new(seed);
+    let mut random = Random::new(seed);
+
+    for byte in 0..=255 {
+        if byte % 64 == 0 {
+            pair.make_dirty(&mut random);
+        }
+        pair.machine.pc = random.short();
+        pair.machine.wp = random.byte();
+        pair.machine.rp = random.byte();
+        let at = usize::from(pair.machine.pc);
+        pair.put(Part::Memory, at, &[byte]);
+        for _ in 0..8 {
+            pair.step();
+        }
+    }
+
+    let length = 1 + random.below(PROGRAM_LIMIT);
+    let any = random_bytes(&mut random, length, true);
+    pair.load(&any);
+    pair.run(10_000);
+
+    let program = grammar_made(&mut random, seed.is_multiple_of(2));
+    pair.load(&program);
+    let mut steps = 0;
+    while steps < 2_000 && pair.step().answer != BROKE {
+        steps += 1;
+    }
+    for _ in 0..10 {
+        let mut record = [0; RECORD];
+        let length = random.below(RECORD + 1);
+        random.fill(&mut record[..length]);
+        record[0] = length.saturating_sub(2) as u8;
+        let budget = random.below(3_000) as u32;
+        pair.frame(&record, budget);
+        let device = random.below(20) as u8;
+        let budget = random.below(300) as u32;
+        pair.event(device, budget);
+        let budget = random.below(1_000) as u32;
+        pair.run(budget);
+    }
+    pair.compared_steps
+}
