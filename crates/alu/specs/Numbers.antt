@@ -1,6 +1,6 @@
 -- The operations 08 to 0B and 18 to 1E by their numbers in their groups, in the order of document 01's table.
 -- Assumes nothing.
-use mathlib.Core.List.{List, [], _∷_}
+use mathlib.Core.List.{[], _∷_}
 use Prim.Native.Nat.{ℕ}
 use lib.ListN.{getD}
 use Rattle.model.specs.Instruction.{Comparison, Arithmetic}

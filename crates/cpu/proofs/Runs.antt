@@ -1,8 +1,8 @@
 -- A step by its byte, and a run from the steps of its loop. Assumes nothing.
 use mathlib.Core.Path.{_≡_, refl, sym, ap}
 use mathlib.Core.Bool.{Bool, true, false, cond}
-use mathlib.Core.List.{List, [], _∷_}
-use Prim.Native.Nat.{ℕ, zero, suc, _+_, _-_, _%_, _≤_, _<_}
+use mathlib.Core.List.{[], _∷_}
+use Prim.Native.Nat.{ℕ, suc, _+_, _-_, _%_, _≤_, _<_}
 use native.Mathlib.Omega.{arith}
 use denote.Enum.Declared.{tagOf}
 use types.Run.{OneOf, miss}
@@ -10,7 +10,7 @@ use lib.Dec.{leb}
 use borrow.Author.Tests.{leb-true, leb-false}
 use Rattle.model.specs.Machine.{State, state}
 use Rattle.model.specs.Step.{fetched, step, breaks}
-use Rattle.model.specs.Run.{Answer, Reply, reply, stepReply, oneMore, run}
+use Rattle.model.specs.Run.{Reply, reply, stepReply, run}
 use Rattle.model.specs.Run.Answer.{Refused, WentOn, Broke, Spent}
 use Rattle.model.specs.Replies.{ofStep}
 use Rattle.model.specs.declared.Machine.{Machine}
@@ -42,12 +42,11 @@ starts budget s =
     rw e
 
 -- the answer and the state of equal replies
-module _ {a b : Answer} {n m : ℕ} {t u : State} (h : reply a n 0 t ≡ reply b m 0 u) where
-  answers : a ≡ b
-  answers = ap (λ (r : Reply). r .answer) h
+pub answers : {r t : Reply} → r ≡ t → r .answer ≡ t .answer
+answers h = ap (λ (x : Reply). x .answer) h
 
-  states : u ≡ t
-  states = sym (ap (λ (r : Reply). r .state) h)
+states : {r t : Reply} → r ≡ t → t .state ≡ r .state
+states h = sym (ap (λ (x : Reply). x .state) h)
 
 -- a step that went on, and one that broke; no step is refused
 went : (b : Bool) → WentOn ≡ cond b Broke WentOn → b ≡ false

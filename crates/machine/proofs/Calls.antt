@@ -1,23 +1,24 @@
 -- The replies of the calls: a refusal, and what is done without one. Assumes nothing.
 use mathlib.Core.Path.{_≡_, refl, sym, ap, _∙_}
 use mathlib.Core.Bool.{Bool, true, false, cond, _||_}
-use mathlib.Core.List.{List, [], _∷_, _++_, append-nil}
-use Prim.Native.Nat.{ℕ, zero, suc, _+_, _*_, _≤_, _<_}
+use mathlib.Core.List.{List, [], _++_, append-nil}
+use Prim.Native.Nat.{ℕ, zero, suc, _+_, _*_, _≤_}
 use native.Mathlib.Omega.{arith}
 use lib.Dec.{eqb, ltb}
 use borrow.Author.Tests.{ne-eqb, ltb-false}
 use lib.ListN.{length, getD, set, take, drop}
 use Rattle.model.specs.Bytes.{zeros, number, readRing}
-use Rattle.model.specs.Machine.{memorySize, pageSize, stackSize, start, stack, State, state, Sized}
+use Rattle.model.specs.Machine.{pageSize, start, State, state, Sized}
 use Rattle.model.specs.Instruction.{size}
 use Rattle.model.specs.Step.{step, breaks}
-use Rattle.model.specs.Run.{Answer, Reply, reply, stepReply, run}
+use Rattle.model.specs.Run.{Reply, reply, stepReply, run}
 use Rattle.model.specs.Run.Answer.{Refused, Loaded, WentOn, Broke, Spent, Ignored}
-use Rattle.model.specs.Calls.{refusal, hasLength, bufferRows, unless, from, loadMost, loadRows, load, loadCall, stepCall, runCall, eventRows, vector, eventCall, frameSize, framePlace, verdictPort, frameRows, framed, verdictOf, withVerdict, frameCall}
-use Rattle.model.specs.Replies.{ofLoad, ofStep, ofRun, ofEvent, ofFrame}
+use Rattle.model.specs.Calls.{refusal, hasLength, bufferRows, unless, from, loadMost, loadRows, load, eventRows, vector, frameSize, framePlace, verdictPort, frameRows, framed, withVerdict}
+use Rattle.model.specs.Replies.{ofStep, ofRun, ofEvent, ofFrame}
 use Rattle.model.specs.declared.Machine.{Machine}
 use Rattle.model.proofs.Runs.{run-broke, run-on}
 use Rattle.model.proofs.Numbers.{none-says, buffers-right, frame-right}
+use Rattle.cpu.proofs.Runs.{answers}
 use Rattle.cpu.specs.Ended.{ofEnd}
 use Rattle.cpu.specs.declared.End.{End}
 use Rattle.machine.specs.FromRun.{stepOf, runOf, eventOf, frameOf}
@@ -86,9 +87,6 @@ one-step s = by (breaks s) refl
     by : (b : Bool) → breaks s ≡ b → run 1 s ≡ reply (cond b Broke Spent) 1 0 (step s)
     by true e = run-broke 0 s e
     by false e = run-on 0 s e
-
-answers : {r t : Reply} → r ≡ t → r .answer ≡ t .answer
-answers h = ap (λ (x : Reply). x .answer) h
 
 stepped : (after : Machine → State) (b : Bool) (t : State) (e : End) → ofEnd 1 after e ≡ reply (cond b Broke Spent) 1 0 t
     → ofStep after (stepOf e) ≡ reply (cond b Broke WentOn) 1 0 t

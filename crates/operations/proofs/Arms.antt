@@ -1,15 +1,15 @@
 -- The whole reply of a step, from what the code of its operation leaves of the parts that it touches. Assumes nothing.
-use mathlib.Core.Path.{_≡_, refl, sym, ap, _∙_}
+use mathlib.Core.Path.{_≡_, refl, ap}
 use mathlib.Core.Bool.{Bool, true, false, cond}
-use mathlib.Core.List.{List, [], _∷_}
-use Prim.Native.Nat.{ℕ, zero, suc, _+_, _*_, _/_, _%_, _≤_, _<_}
+use mathlib.Core.List.{List, []}
+use Prim.Native.Nat.{ℕ, zero, suc, _+_, _/_, _%_, _≤_, _<_}
 use native.Mathlib.Omega.{arith}
 use lib.Dec.{eqb}
 use borrow.Author.Tests.{eq-eqb, ne-eqb}
 use Rattle.model.specs.Bytes.{word, number, readRing, writeRing}
 use Rattle.model.specs.Machine.{memorySize, Stack, stack, State, pushed, popped, lowered}
 use Rattle.model.specs.Instruction.{Op, Comparison, Arithmetic, opAt, opOf, wide, size, returnMode, keepMode, shape}
-use Rattle.model.specs.Instruction.Op.{BRK, JCI, JMI, JSI, LIT, INC, POP, NIP, SWP, ROT, DUP, OVR, compare, JMP, JCN, JSR, STH, LDZ, STZ, LDR, STR, LDA, STA, DEI, DEO, compute, SFT}
+use Rattle.model.specs.Instruction.Op.{JCI, INC, POP, NIP, SWP, ROT, DUP, OVR, compare, JMP, JCN, JSR, STH, LDZ, STZ, LDR, STR, LDA, STA, DEI, DEO, compute, SFT}
 use Rattle.model.specs.Step.{offset, effect, effectOn, words, mainAfter, otherAfter, written, applied, exchanged, operated, execute}
 use Rattle.model.specs.Run.{reply}
 use Rattle.model.specs.Run.Answer.{WentOn, Broke}

@@ -2,9 +2,8 @@
 use mathlib.Core.Path.{_≡_, refl}
 use mathlib.Core.Bool.{Bool, true, false}
 use mathlib.Core.List.{List, [], _∷_, _++_, append-assoc, append-nil}
-use Prim.Native.Nat.{ℕ, zero, suc, _+_, _/_, _%_}
+use Prim.Native.Nat.{ℕ, _+_, _/_, _%_}
 use native.Mathlib.Omega.{arith}
-use lib.ListN.{take}
 use Rattle.model.specs.Bytes.{word, number, sum}
 use Rattle.model.specs.Machine.{Stack, stack, pushed, numbers, operands, lowered}
 use Rattle.model.specs.Instruction.{size}

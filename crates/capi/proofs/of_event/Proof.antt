@@ -1,3 +1,4 @@
+-- `capi::of_event` meets its contract. Assumes nothing.
 use borrow.Author.Needs.{needs}
 use Rattle.capi.proofs.of_event.Statement.{statement}
 use Rattle.capi.proofs.of_event.Tie as tie

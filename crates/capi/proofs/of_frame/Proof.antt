@@ -1,3 +1,4 @@
+-- `capi::of_frame` meets its contract. Assumes nothing.
 use borrow.Author.Needs.{needs}
 use Rattle.capi.proofs.of_frame.Statement.{statement}
 use Rattle.capi.proofs.of_frame.Tie as tie

@@ -1,3 +1,4 @@
+-- `capi::of_load` meets its contract. Assumes nothing.
 use borrow.Author.Needs.{needs}
 use Rattle.capi.proofs.of_load.Statement.{statement}
 use Rattle.capi.proofs.of_load.Tie as tie

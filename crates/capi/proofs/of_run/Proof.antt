@@ -1,3 +1,4 @@
+-- `capi::of_run` meets its contract. Assumes nothing.
 use borrow.Author.Needs.{needs}
 use Rattle.capi.proofs.of_run.Statement.{statement}
 use Rattle.capi.proofs.of_run.Tie as tie

@@ -1,3 +1,4 @@
+-- `capi::of_step` meets its contract. Assumes nothing.
 use borrow.Author.Needs.{needs}
 use Rattle.capi.proofs.of_step.Statement.{statement}
 use Rattle.capi.proofs.of_step.Tie as tie

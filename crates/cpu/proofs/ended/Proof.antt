@@ -1,3 +1,4 @@
+-- `cpu::ended` meets its contract. Assumes nothing.
 use borrow.Author.Needs.{needs}
 use Rattle.cpu.proofs.ended.Statement.{statement}
 use Rattle.cpu.proofs.ended.Tie as tie

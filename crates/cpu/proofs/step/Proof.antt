@@ -1,3 +1,4 @@
+-- `cpu::step` meets its contract. Assumes nothing.
 use native.Mathlib.Omega.{arith}
 use Rattle.cpu.proofs.Runs.{step-is}
 use borrow.Author.Needs.{needs}

@@ -1,3 +1,4 @@
+-- `execute::execute` meets its contract. Assumes nothing.
 use Rattle.operations.proofs.Arms as laws
 use mathlib.Core.Bool.{true, false}
 use native.Mathlib.Omega.{arith}

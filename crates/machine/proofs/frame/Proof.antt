@@ -1,5 +1,5 @@
+-- `machine::frame` meets its contract. Assumes nothing.
 use Rattle.machine.proofs.Calls as calls
-use native.Mathlib.Omega.{arith}
 use mathlib.Core.Path.{ap, _∙_}
 use Rattle.model.specs.Run.{run}
 use Rattle.model.specs.Calls.{frameCall, withVerdict}

@@ -1,3 +1,4 @@
+-- `machine::frame_of` meets its contract. Assumes nothing.
 use native.Mathlib.Omega.{arith}
 use borrow.Author.Needs.{needs}
 use Rattle.machine.proofs.frame_of.Statement.{statement}

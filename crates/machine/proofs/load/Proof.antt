@@ -1,3 +1,4 @@
+-- `machine::load` meets its contract. Assumes nothing.
 use Rattle.machine.proofs.Calls as calls
 use Rattle.model.specs.Calls.{loadCall}
 use borrow.Author.Needs.{needs}

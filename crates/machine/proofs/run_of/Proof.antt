@@ -1,3 +1,4 @@
+-- `machine::run_of` meets its contract. Assumes nothing.
 use native.Mathlib.Omega.{arith}
 use borrow.Author.Needs.{needs}
 use Rattle.machine.proofs.run_of.Statement.{statement}

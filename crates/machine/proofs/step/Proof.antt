@@ -1,3 +1,4 @@
+-- `machine::step` meets its contract. Assumes nothing.
 use Rattle.machine.proofs.Calls as calls
 use Rattle.model.specs.Calls.{stepCall}
 use borrow.Author.Needs.{needs}

@@ -1,3 +1,4 @@
+-- `machine::step_of` meets its contract. Assumes nothing.
 use borrow.Author.Needs.{needs}
 use Rattle.machine.proofs.step_of.Statement.{statement}
 use Rattle.machine.proofs.step_of.Tie as tie

@@ -1,3 +1,4 @@
+-- `operations::inline` meets its contract. Assumes nothing.
 use Rattle.stack.proofs.Rings.{read-from}
 use borrow.Author.Needs.{needs}
 use Rattle.operations.proofs.inline.Statement.{statement}

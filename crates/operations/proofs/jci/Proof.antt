@@ -1,3 +1,4 @@
+-- `operations::jci` meets its contract. Assumes nothing.
 use Rattle.operations.proofs.Operations as laws
 use borrow.Author.Needs.{needs}
 use Rattle.operations.proofs.jci.Statement.{statement}

@@ -1,4 +1,4 @@
-use mathlib.Core.Path.{_≡_}
+-- `operations::lit` meets its contract. Assumes nothing.
 use borrow.Author.Needs.{needs}
 use Rattle.operations.proofs.lit.Statement.{statement}
 use Rattle.operations.proofs.lit.Tie as tie

@@ -1,3 +1,4 @@
+-- `operations::stz` meets its contract. Assumes nothing.
 use Rattle.operations.proofs.Operations as laws
 use borrow.Author.Needs.{needs}
 use Rattle.operations.proofs.stz.Statement.{statement}

@@ -1,3 +1,4 @@
+-- `stack::below` meets its contract. Assumes nothing.
 use native.Mathlib.Omega.{arith}
 use Rattle.stack.proofs.Pops.{none-below, some-below}
 use borrow.Author.Needs.{needs}

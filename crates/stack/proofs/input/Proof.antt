@@ -1,3 +1,4 @@
+-- `stack::input` meets its contract. Assumes nothing.
 use mathlib.Core.Path.{refl}
 use Rattle.stack.proofs.Rings.{read-is}
 use borrow.Author.Needs.{needs}

@@ -1,3 +1,4 @@
+-- `stack::lower` meets its contract. Assumes nothing.
 use native.Mathlib.Omega.{arith}
 use Rattle.stack.proofs.Pops.{kept, lower-is}
 use borrow.Author.Needs.{needs}

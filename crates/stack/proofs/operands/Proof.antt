@@ -1,3 +1,4 @@
+-- `stack::operands` meets its contract. Assumes nothing.
 use Rattle.stack.proofs.Pops.{operands-are}
 use borrow.Author.Needs.{needs}
 use Rattle.stack.proofs.operands.Statement.{statement}

@@ -1,3 +1,4 @@
+-- `stack::output` meets its contract. Assumes nothing.
 use mathlib.Core.Path.{refl}
 use Rattle.stack.proofs.Rings.{write-is}
 use borrow.Author.Needs.{needs}

@@ -1,3 +1,4 @@
+-- `stack::push` meets its contract. Assumes nothing.
 use Rattle.model.specs.Instruction.{size}
 use Rattle.stack.proofs.Rings.{pushed-two}
 use borrow.Author.Needs.{needs}

@@ -1,3 +1,4 @@
+-- `stack::push_byte` meets its contract. Assumes nothing.
 use Rattle.model.specs.Bytes.{word}
 use Rattle.model.specs.Machine.{pushed}
 use borrow.Author.Needs.{needs}

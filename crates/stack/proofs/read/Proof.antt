@@ -1,3 +1,4 @@
+-- `stack::read` meets its contract. Assumes nothing.
 use borrow.Author.Needs.{needs}
 use Rattle.stack.proofs.read.Statement.{statement}
 use Rattle.stack.proofs.read.Tie as tie

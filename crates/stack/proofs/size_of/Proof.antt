@@ -1,6 +1,6 @@
+-- `stack::size_of` meets its contract. Assumes nothing.
 use Rattle.model.specs.Instruction.{size}
 use native.Mathlib.Omega.{arith}
-use borrow.Author.Needs.{needs}
 use Rattle.stack.proofs.size_of.Statement.{statement}
 use Rattle.stack.proofs.size_of.Tie as tie
 

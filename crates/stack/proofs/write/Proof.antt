@@ -1,3 +1,4 @@
+-- `stack::write` meets its contract. Assumes nothing.
 use borrow.Author.Needs.{needs}
 use Rattle.stack.proofs.write.Statement.{statement}
 use Rattle.stack.proofs.write.Tie as tie
