@@ -33,7 +33,7 @@ pub fn step(
     execute(m, memory, devices, work, ret, byte % 128, 128 <= byte)
 }
 
-// The end of a run whose last step gave this reply.
+// The end of a run whose last step gave this reply. On buffers of the right lengths no step is refused.
 fn ended(reply: StepReply, left: u32) -> End
     ensures { λ r. ⌜ r ≡ endedBy reply left ⌝ }
 {

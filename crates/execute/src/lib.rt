@@ -35,6 +35,8 @@ ghost use Rattle.model.specs.Machine.{state, Sized};
 ghost use Rattle.model.specs.Replies.{ofStep};
 ghost use Rattle.operations.specs.After.{executed, byteOf};
 
+// Each arm is an operation in 8-bit or 16-bit form; the arms 00, 20, 40 and 60 are the exceptions, LIT where keep is set and else
+// BRK, JCI, JMI and JSI.
 pub fn execute(
     m: Machine,
     memory: &mut [u8],

@@ -76,6 +76,7 @@ fn frame_of(end: End, budget: u32, verdict: u8) -> FrameReply
 
 // ---- the calls
 
+// "memory is zero but for the program at 0100 hexadecimal; device page and stacks are zero; both pointers 0; counter 0100"
 pub fn load(
     m: Machine,
     memory: &mut [u8],
@@ -102,7 +103,7 @@ pub fn load(
     })
 }
 
-// A run with budget 1: the loop of `cpu::run` stays the one place where an instruction is carried out.
+// One instruction, as a run with budget 1: the loop of `cpu::run` stays the one place where an instruction is carried out.
 pub fn step(
     m: Machine,
     memory: &mut [u8],
@@ -120,6 +121,7 @@ pub fn step(
     step_of(cpu::run(m, memory, devices, work, ret, 1))
 }
 
+// "Each instruction costs one, BRK too. Broke if the last was BRK, else Spent."
 pub fn run(
     m: Machine,
     memory: &mut [u8],
@@ -138,6 +140,7 @@ pub fn run(
     run_of(cpu::run(m, memory, devices, work, ret, budget), budget)
 }
 
+// "Zero: Ignored, 0 steps, nothing changed. Else run from it; stacks and pointers are retained."
 pub fn event(
     m: Machine,
     memory: &mut [u8],
@@ -173,6 +176,8 @@ pub fn event(
     event_of(end, budget)
 }
 
+// "Port F2 is set to 0, the record is written to memory 0080 to 00BF, both pointers become 0, and the program runs from 0100
+// with the budget given."
 pub fn frame(
     m: Machine,
     memory: &mut [u8],

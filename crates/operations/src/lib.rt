@@ -34,6 +34,7 @@ ghost use Rattle.operations.specs.After.{after};
 
 // ---- the main stack alone
 
+// INC a: a+1.
 pub fn inc(s: &mut [u8], p: u8, wide: bool, keep: bool) -> u8
     requires { ⌜ length (now s) ≡ stackSize ⌝ }
     ensures { λ r. ⌜ stack (now (s .exit)) r ≡ after [] [] 0 INC wide keep (stack (now (s .entry)) p) ⌝ }
@@ -43,6 +44,7 @@ pub fn inc(s: &mut [u8], p: u8, wide: bool, keep: bool) -> u8
     push(s, lower(p, keep, n), wide, wrapping_add_u16(x[0], 1))
 }
 
+// POP a: nothing.
 pub fn pop(s: &[u8], p: u8, wide: bool, keep: bool) -> u8
     requires { ⌜ length (now s) ≡ stackSize ⌝ }
     ensures { λ r. ⌜ stack (now (s .entry)) r ≡ after [] [] 0 POP wide keep (stack (now (s .entry)) p) ⌝ }
@@ -50,6 +52,7 @@ pub fn pop(s: &[u8], p: u8, wide: bool, keep: bool) -> u8
     lower(p, keep, size_of(wide))
 }
 
+// NIP a b: b.
 pub fn nip(s: &mut [u8], p: u8, wide: bool, keep: bool) -> u8
     requires { ⌜ length (now s) ≡ stackSize ⌝ }
     ensures { λ r. ⌜ stack (now (s .exit)) r ≡ after [] [] 0 NIP wide keep (stack (now (s .entry)) p) ⌝ }
@@ -59,6 +62,7 @@ pub fn nip(s: &mut [u8], p: u8, wide: bool, keep: bool) -> u8
     push(s, lower(p, keep, n + n), wide, x[1])
 }
 
+// SWP a b: b a.
 pub fn swp(s: &mut [u8], p: u8, wide: bool, keep: bool) -> u8
     requires { ⌜ length (now s) ≡ stackSize ⌝ }
     ensures { λ r. ⌜ stack (now (s .exit)) r ≡ after [] [] 0 SWP wide keep (stack (now (s .entry)) p) ⌝ }
@@ -69,6 +73,7 @@ pub fn swp(s: &mut [u8], p: u8, wide: bool, keep: bool) -> u8
     push(s, q, wide, x[0])
 }
 
+// ROT a b c: b c a.
 pub fn rot(s: &mut [u8], p: u8, wide: bool, keep: bool) -> u8
     requires { ⌜ length (now s) ≡ stackSize ⌝ }
     ensures { λ r. ⌜ stack (now (s .exit)) r ≡ after [] [] 0 ROT wide keep (stack (now (s .entry)) p) ⌝ }
@@ -80,6 +85,7 @@ pub fn rot(s: &mut [u8], p: u8, wide: bool, keep: bool) -> u8
     push(s, r, wide, x[0])
 }
 
+// DUP a: a a.
 pub fn dup(s: &mut [u8], p: u8, wide: bool, keep: bool) -> u8
     requires { ⌜ length (now s) ≡ stackSize ⌝ }
     ensures { λ r. ⌜ stack (now (s .exit)) r ≡ after [] [] 0 DUP wide keep (stack (now (s .entry)) p) ⌝ }
@@ -90,6 +96,7 @@ pub fn dup(s: &mut [u8], p: u8, wide: bool, keep: bool) -> u8
     push(s, q, wide, x[0])
 }
 
+// OVR a b: a b a.
 pub fn ovr(s: &mut [u8], p: u8, wide: bool, keep: bool) -> u8
     requires { ⌜ length (now s) ≡ stackSize ⌝ }
     ensures { λ r. ⌜ stack (now (s .exit)) r ≡ after [] [] 0 OVR wide keep (stack (now (s .entry)) p) ⌝ }
@@ -101,6 +108,7 @@ pub fn ovr(s: &mut [u8], p: u8, wide: bool, keep: bool) -> u8
     push(s, r, wide, x[0])
 }
 
+// EQU, NEQ, GTH, LTH a b, as o = 0 to 3: one byte, 1 or 0.
 pub fn compare(s: &mut [u8], p: u8, wide: bool, keep: bool, o: u8) -> u8
     requires { ⌜ length (now s) ≡ stackSize ⌝ }
     ensures { λ r. ⌜ stack (now (s .exit)) r ≡ after [] [] 0 (compare (comparisonAt o)) wide keep (stack (now (s .entry)) p) ⌝ }
@@ -110,6 +118,7 @@ pub fn compare(s: &mut [u8], p: u8, wide: bool, keep: bool, o: u8) -> u8
     push_byte(s, lower(p, keep, n + n), flag(compared(o, x[0], x[1])))
 }
 
+// ADD, SUB, MUL, DIV, AND, ORA, EOR a b, as o = 0 to 6.
 pub fn compute(s: &mut [u8], p: u8, wide: bool, keep: bool, o: u8) -> u8
     requires { ⌜ length (now s) ≡ stackSize ⌝ }
     ensures { λ r. ⌜ stack (now (s .exit)) r ≡ after [] [] 0 (compute (arithmeticAt o)) wide keep (stack (now (s .entry)) p) ⌝ }
@@ -119,6 +128,7 @@ pub fn compute(s: &mut [u8], p: u8, wide: bool, keep: bool, o: u8) -> u8
     push(s, lower(p, keep, n + n), wide, computed(o, x[0], x[1]))
 }
 
+// SFT a shift8.
 pub fn sft(s: &mut [u8], p: u8, wide: bool, keep: bool) -> u8
     requires { ⌜ length (now s) ≡ stackSize ⌝ }
     ensures { λ r. ⌜ stack (now (s .exit)) r ≡ after [] [] 0 SFT wide keep (stack (now (s .entry)) p) ⌝ }
@@ -130,6 +140,7 @@ pub fn sft(s: &mut [u8], p: u8, wide: bool, keep: bool) -> u8
 
 // ---- memory and devices
 
+// LDZ addr8: value.
 pub fn ldz(memory: &[u8], s: &mut [u8], p: u8, wide: bool, keep: bool) -> u8
     requires { ⌜ (length (now memory) ≡ memorySize) × (length (now s) ≡ stackSize) ⌝ }
     ensures { λ r. ⌜ stack (now (s .exit)) r ≡ after (now (memory .entry)) [] 0 LDZ wide keep (stack (now (s .entry)) p) ⌝ }
@@ -143,6 +154,7 @@ pub fn ldz(memory: &[u8], s: &mut [u8], p: u8, wide: bool, keep: bool) -> u8
     )
 }
 
+// LDR rel8: value.
 pub fn ldr(memory: &[u8], s: &mut [u8], next: u16, p: u8, wide: bool, keep: bool) -> u8
     requires { ⌜ (length (now memory) ≡ memorySize) × (length (now s) ≡ stackSize) ⌝ }
     ensures { λ r. ⌜ stack (now (s .exit)) r ≡ after (now (memory .entry)) [] next LDR wide keep (stack (now (s .entry)) p) ⌝ }
@@ -156,6 +168,7 @@ pub fn ldr(memory: &[u8], s: &mut [u8], next: u16, p: u8, wide: bool, keep: bool
     )
 }
 
+// LDA addr16: value.
 pub fn lda(memory: &[u8], s: &mut [u8], p: u8, wide: bool, keep: bool) -> u8
     requires { ⌜ (length (now memory) ≡ memorySize) × (length (now s) ≡ stackSize) ⌝ }
     ensures { λ r. ⌜ stack (now (s .exit)) r ≡ after (now (memory .entry)) [] 0 LDA wide keep (stack (now (s .entry)) p) ⌝ }
@@ -164,6 +177,7 @@ pub fn lda(memory: &[u8], s: &mut [u8], p: u8, wide: bool, keep: bool) -> u8
     push(s, lower(p, keep, 2), wide, load(memory, x[0], wide))
 }
 
+// DEI port8: value.
 pub fn dei(devices: &[u8], s: &mut [u8], p: u8, wide: bool, keep: bool) -> u8
     requires { ⌜ (length (now devices) ≡ pageSize) × (length (now s) ≡ stackSize) ⌝ }
     ensures { λ r. ⌜ stack (now (s .exit)) r ≡ after [] (now (devices .entry)) 0 DEI wide keep (stack (now (s .entry)) p) ⌝ }
@@ -172,6 +186,7 @@ pub fn dei(devices: &[u8], s: &mut [u8], p: u8, wide: bool, keep: bool) -> u8
     push(s, lower(p, keep, 1), wide, input(devices, x[0], wide))
 }
 
+// STZ value addr8.
 pub fn stz(memory: &mut [u8], s: &[u8], p: u8, wide: bool)
     requires { ⌜ (length (now memory) ≡ memorySize) × (length (now s) ≡ stackSize) ⌝ }
     ensures { λ _. ⌜ now (memory .exit) ≡ written (effectOn [] [] 0 0 STZ wide (stack (now (s .entry)) p)) (size wide) (now (memory .entry)) ⌝ }
@@ -180,6 +195,7 @@ pub fn stz(memory: &mut [u8], s: &[u8], p: u8, wide: bool)
     store_zero_page(memory, x[1], wide, x[0]);
 }
 
+// STR value rel8.
 pub fn str(memory: &mut [u8], s: &[u8], next: u16, p: u8, wide: bool)
     requires { ⌜ (length (now memory) ≡ memorySize) × (length (now s) ≡ stackSize) ⌝ }
     ensures { λ _. ⌜ now (memory .exit) ≡ written (effectOn [] [] next 0 STR wide (stack (now (s .entry)) p)) (size wide) (now (memory .entry)) ⌝ }
@@ -188,6 +204,7 @@ pub fn str(memory: &mut [u8], s: &[u8], next: u16, p: u8, wide: bool)
     store(memory, relative(next, x[1]), wide, x[0]);
 }
 
+// STA value addr16.
 pub fn sta(memory: &mut [u8], s: &[u8], p: u8, wide: bool)
     requires { ⌜ (length (now memory) ≡ memorySize) × (length (now s) ≡ stackSize) ⌝ }
     ensures { λ _. ⌜ now (memory .exit) ≡ written (effectOn [] [] 0 0 STA wide (stack (now (s .entry)) p)) (size wide) (now (memory .entry)) ⌝ }
@@ -196,6 +213,7 @@ pub fn sta(memory: &mut [u8], s: &[u8], p: u8, wide: bool)
     store(memory, x[1], wide, x[0]);
 }
 
+// DEO value port8.
 pub fn deo(devices: &mut [u8], s: &[u8], p: u8, wide: bool)
     requires { ⌜ (length (now devices) ≡ pageSize) × (length (now s) ≡ stackSize) ⌝ }
     ensures { λ _. ⌜ now (devices .exit) ≡ written (effectOn [] [] 0 0 DEO wide (stack (now (s .entry)) p)) (size wide) (now (devices .entry)) ⌝ }
@@ -206,6 +224,7 @@ pub fn deo(devices: &mut [u8], s: &[u8], p: u8, wide: bool)
 
 // ---- jumps, and the other stack
 
+// JMP addr, and JSR addr: where it jumps to.
 pub fn jmp(s: &[u8], p: u8, next: u16, wide: bool) -> u16
     requires { ⌜ length (now s) ≡ stackSize ⌝ }
     ensures { λ r. ⌜ r ≡ effectOn [] [] next 0 JMP wide (stack (now (s .entry)) p) .target ⌝ }
@@ -214,6 +233,7 @@ pub fn jmp(s: &[u8], p: u8, next: u16, wide: bool) -> u16
     address(next, wide, x[0])
 }
 
+// JCN cond8 addr: jump if cond is not 0, else go on.
 pub fn jcn(s: &[u8], p: u8, next: u16, wide: bool) -> u16
     requires { ⌜ length (now s) ≡ stackSize ⌝ }
     ensures { λ r. ⌜ r ≡ effectOn [] [] next 0 JCN wide (stack (now (s .entry)) p) .target ⌝ }
@@ -226,6 +246,7 @@ pub fn jcn(s: &[u8], p: u8, next: u16, wide: bool) -> u16
     }
 }
 
+// STH a: a is pushed on the other stack.
 pub fn sth(main: &[u8], p: u8, other: &mut [u8], q: u8, wide: bool) -> u8
     requires { ⌜ (length (now main) ≡ stackSize) × (length (now other) ≡ stackSize) ⌝ }
     ensures { λ r. ⌜ stack (now (other .exit)) r ≡ otherAfter STH wide (effectOn [] [] 0 0 STH wide (stack (now (main .entry)) p)) (stack (now (other .entry)) q) ⌝ }
@@ -236,6 +257,7 @@ pub fn sth(main: &[u8], p: u8, other: &mut [u8], q: u8, wide: bool) -> u8
 
 // ---- the bytes after the instruction byte, which stands at `at`
 
+// The number that follows the instruction byte.
 pub fn inline(memory: &[u8], at: u16, wide: bool) -> u16
     requires { ⌜ length (now memory) ≡ memorySize ⌝ }
     ensures { λ r. ⌜ r ≡ number (readRing memorySize (now (memory .entry)) (at + 1) (size wide)) ⌝ }
@@ -243,6 +265,7 @@ pub fn inline(memory: &[u8], at: u16, wide: bool) -> u16
     load(memory, wrapping_add_u16(at, 1), wide)
 }
 
+// JMI, JSI, and JCI that jumps: "a 16-bit offset after the instruction byte", counted "from the address after it".
 pub fn offset(memory: &[u8], at: u16) -> u16
     requires { ⌜ length (now memory) ≡ memorySize ⌝ }
     ensures { λ r. ⌜ r ≡ model.offset ((at + 3) % 65536) (number (readRing memorySize (now (memory .entry)) (at + 1) (size true))) ⌝ }
@@ -250,6 +273,7 @@ pub fn offset(memory: &[u8], at: u16) -> u16
     wrapping_add_u16(wrapping_add_u16(at, 3), inline(memory, at, true))
 }
 
+// JCI "pops a byte of the working stack and jumps if it is not 0".
 pub fn jci(memory: &[u8], s: &[u8], at: u16, p: u8) -> u16
     requires { ⌜ (length (now memory) ≡ memorySize) × (length (now s) ≡ stackSize) ⌝ }
     ensures { λ r. ⌜ r ≡ effectOn [] [] ((at + 3) % 65536) (number (readRing memorySize (now (memory .entry)) (at + 1) (size true))) JCI false (stack (now (s .entry)) p) .target ⌝ }
@@ -262,6 +286,7 @@ pub fn jci(memory: &[u8], s: &[u8], at: u16, p: u8) -> u16
     }
 }
 
+// LIT "pushes the next one or two bytes on the main stack".
 pub fn lit(memory: &[u8], s: &mut [u8], at: u16, p: u8, wide: bool) -> u8
     requires { ⌜ (length (now memory) ≡ memorySize) × (length (now s) ≡ stackSize) ⌝ }
     ensures { λ r. ⌜ stack (now (s .exit)) r ≡ pushed (word (size wide) (number (readRing memorySize (now (memory .entry)) (at + 1) (size wide)))) (stack (now (s .entry)) p) ⌝ }
