@@ -49,6 +49,14 @@ pub fn random_bytes(random: &mut Random, length: usize, with_brk: bool) -> Vec<u
     code
 }
 
+/// By turns random bytes, a program of the grammar that runs for ever, and one that ends.
+pub fn either(random: &mut Random, turn: usize, length: usize, with_brk: bool) -> Vec<u8> {
+    match turn % 3 {
+        0 => random_bytes(random, length, with_brk),
+        rest => grammar_made(random, rest == 1),
+    }
+}
+
 /// A program of the grammar; it ends at BRK or begins again for ever.
 pub fn grammar_made(random: &mut Random, for_ever: bool) -> Vec<u8> {
     let mut writer = Writer {

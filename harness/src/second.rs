@@ -97,42 +97,53 @@ impl Stack<'_> {
 
 // Memory and device page
 
-fn load_memory(memory: &[u8], size: Size, address: u16) -> u16 {
-    let first = memory[address as usize];
+/// The number at `first`, with its low byte at `second` in 16-bit form.
+fn read(bytes: &[u8], size: Size, first: usize, second: usize) -> u16 {
     match size {
-        Size::Eight => u16::from(first),
-        Size::Sixteen => u16::from_be_bytes([first, memory[address.wrapping_add(1) as usize]]),
+        Size::Eight => u16::from(bytes[first]),
+        Size::Sixteen => u16::from_be_bytes([bytes[first], bytes[second]]),
     }
+}
+
+fn write(bytes: &mut [u8], size: Size, first: usize, second: usize, value: u16) {
+    let [high, low] = value.to_be_bytes();
+    match size {
+        Size::Eight => bytes[first] = low,
+        Size::Sixteen => {
+            bytes[first] = high;
+            bytes[second] = low;
+        }
+    }
+}
+
+/// A memory access uses its address and the next one modulo 65,536.
+fn load_memory(memory: &[u8], size: Size, address: u16) -> u16 {
+    read(memory, size, address.into(), address.wrapping_add(1).into())
 }
 
 fn store_memory(memory: &mut [u8], size: Size, address: u16, value: u16) {
-    let [high, low] = value.to_be_bytes();
-    match size {
-        Size::Eight => memory[address as usize] = low,
-        Size::Sixteen => {
-            memory[address as usize] = high;
-            memory[address.wrapping_add(1) as usize] = low;
-        }
-    }
+    write(
+        memory,
+        size,
+        address.into(),
+        address.wrapping_add(1).into(),
+        value,
+    );
 }
 
+/// A device access uses its port and the next one modulo 256.
 fn read_port(device_page: &[u8], size: Size, port: u8) -> u16 {
-    let first = device_page[port as usize];
-    match size {
-        Size::Eight => u16::from(first),
-        Size::Sixteen => u16::from_be_bytes([first, device_page[port.wrapping_add(1) as usize]]),
-    }
+    read(device_page, size, port.into(), port.wrapping_add(1).into())
 }
 
 fn write_port(device_page: &mut [u8], size: Size, port: u8, value: u16) {
-    let [high, low] = value.to_be_bytes();
-    match size {
-        Size::Eight => device_page[port as usize] = low,
-        Size::Sixteen => {
-            device_page[port as usize] = high;
-            device_page[port.wrapping_add(1) as usize] = low;
-        }
-    }
+    write(
+        device_page,
+        size,
+        port.into(),
+        port.wrapping_add(1).into(),
+        value,
+    );
 }
 
 /// The place `offset`, -128 to 127, from `base`.

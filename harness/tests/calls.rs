@@ -5,7 +5,7 @@ use uxn_filter_harness::calls::{
     BROKE, IGNORED, LOADED, MEMORY, PROGRAM_LIMIT, PROGRAM_START, RECORD, REFUSED, SPENT,
 };
 use uxn_filter_harness::pair::{Pair, Part};
-use uxn_filter_harness::programs::{grammar_made, random_bytes};
+use uxn_filter_harness::programs::{either, grammar_made, random_bytes};
 use uxn_filter_harness::random::{seed, Random};
 
 const BUDGETS: [u32; 4] = [0, 1, 2, 3_000];
@@ -204,12 +204,7 @@ fn frames_in_a_row() {
     let mut pair = Pair::new(seed());
     let mut random = Random::new(seed());
     for turn in 0..60 {
-        let program = if turn % 3 == 0 {
-            random_bytes(&mut random, 500, true)
-        } else {
-            grammar_made(&mut random, turn % 3 == 1)
-        };
-        pair.load(&program);
+        pair.load(&either(&mut random, turn, 500, true));
         for _ in 0..40 {
             let length = random.below(MOST_DATA + 1);
             let mut record = record_of(&mut random, length);

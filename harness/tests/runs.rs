@@ -2,7 +2,7 @@
 
 use uxn_filter_harness::calls::{BROKE, SPENT};
 use uxn_filter_harness::pair::Pair;
-use uxn_filter_harness::programs::{grammar_made, random_bytes};
+use uxn_filter_harness::programs::{either, grammar_made, random_bytes};
 use uxn_filter_harness::random::{seed, Random};
 
 const BUDGETS: [u32; 6] = [0, 1, 2, 3, 100, 20_000];
@@ -76,12 +76,7 @@ fn a_run_is_its_steps() {
     let mut pair = Pair::new(seed());
     let mut random = Random::new(seed());
     for turn in 0..60 {
-        let program = if turn % 3 == 0 {
-            random_bytes(&mut random, 1_000, false)
-        } else {
-            grammar_made(&mut random, turn % 3 == 1)
-        };
-        pair.load(&program);
+        pair.load(&either(&mut random, turn, 1_000, false));
         let before = pair.snapshot();
         let mut steps = 0;
         let mut last = SPENT;
