@@ -2,22 +2,25 @@
 use mathlib.Core.Path.{_≡_, refl, sym, ap, _∙_}
 use mathlib.Core.Bool.{Bool, true, false, not, true≢false}
 use mathlib.Core.List.{List, [], _∷_}
-use Prim.Native.Nat.{ℕ, zero, suc, _≤_}
+use Prim.Native.Nat.{ℕ, zero, suc, _+_, _-_, _*_, _/_, _%_, _≤_, _<_}
 use native.Mathlib.Omega.{arith}
 use lib.Dec.{T, eqb, not-T}
-use lib.ListN.{length}
+use lib.ListN.{length, getD}
+use lib.Seq.{ext-getD}
 use borrow.Author.Tests.{eq-eqb, ne-eqb, ltb-false, lt-ltb, le-ltb}
 use Rattle.model.specs.Run.Answer.{Admitted}
-use Rattle.model.specs.Admission.{admitMost, markAt, reached, admitted, sheetOf, markIn, Smallest}
+use Rattle.model.specs.Admission.{Mark, admitMost, byteAt, Within, markAt, reached, admitted, sheetRecord, recordOf, sheetOf, recordAt, markIn, Smallest}
+use Rattle.model.specs.Admission.Mark.{unmarked, marked}
+use Rattle.model.specs.Machine.{start}
 use Rattle.model.specs.Calls.{refusal, admitRows, admitBy, admitCall}
 use Rattle.model.specs.Exactness.{Proper, Exact}
 use Rattle.model.proofs.Tests.{is-true}
 use Rattle.model.proofs.Rules.{parts, assigns-is}
 use Rattle.model.proofs.Reached.{reached-least, admitted-exactly}
-use Rattle.model.proofs.Sheet.{length-sheet, record-is, mark-in}
+use Rattle.model.proofs.Sheet.{length-sheet, record-byte, record-is, mark-in}
 use Rattle.model.proofs.Numbers.{no-rows, passed-over, given-by, none-says, right}
 
-T-of : (b : Bool) → not b ≡ false → T b
+pub T-of : (b : Bool) → not b ≡ false → T b
 T-of true e = tt
 T-of false e = absurd (true≢false e)
 
@@ -97,3 +100,33 @@ exact =
           ∙ passed-over 9 _ _ (le-ltb admitMost (length program) h)
           ∙ given-by 10 _ _ (ap not (ne-eqb _ _ n)));
     }
+
+-- ---- "the smallest one": there are no two of them
+
+module _ (program a b : List ℕ) (s : Smallest program a) (t : Smallest program b) where
+  same-marks : (at : ℕ) → markIn a at ≡ markIn b at
+  same-marks at = by (markIn a at) (markIn b at) refl refl
+    where
+      by : (x y : Mark) → markIn a at ≡ x → markIn b at ≡ y → x ≡ y
+      by unmarked unmarked e f = refl
+      by unmarked (marked w r) e f = sym e ∙ t .least (markIn a) (s .assigned) at w r f
+      by (marked w r) y e f = sym (s .least (markIn b) (t .assigned) at w r e) ∙ f
+
+  same-record : (i : ℕ) → i < length program → recordAt a (start + i) ≡ recordAt b (start + i)
+  same-record i h =
+      let in-program : Within program (start + i) = (omega arith, omega arith) in
+      s .records (start + i) in-program
+      ∙ ap (λ x. recordOf x (byteAt program (start + i))) (same-marks (start + i))
+      ∙ sym (t .records (start + i) in-program)
+
+  same-byte : (j : ℕ) → j < length a → getD a j 0 ≡ getD b j 0
+  same-byte j h =
+      let i = j / sheetRecord in
+      let k = j % sheetRecord in
+      let e : start + i - start ≡ i = omega arith in
+      let f : sheetRecord * i + k ≡ j = omega arith in
+      let g = rw e at (same-record i (omega (arith, s .size))) in
+      rw f at (sym (record-byte a i k (omega arith)) ∙ ap (λ entry. getD entry k 0) g ∙ record-byte b i k (omega arith))
+
+  pub smallest-one : a ≡ b
+  smallest-one = ext-getD 0 a b (s .size ∙ sym (t .size)) same-byte

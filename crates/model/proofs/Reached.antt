@@ -96,12 +96,12 @@ module _ (program : List ℕ) where
 
 -- ---- as many sweeps as the program has bytes are enough: one more changes nothing
 
-count : List Mark → ℕ
+unfoldable pub count : List Mark → ℕ
 count [] = 0
 count (unmarked ∷ x) = count x
 count (marked w r ∷ x) = suc (count x)
 
-count-most : (x : List Mark) → count x ≤ length x
+pub count-most : (x : List Mark) → count x ≤ length x
 unfolding count
 count-most [] = omega arith
 count-most (unmarked ∷ x) = omega (arith, count-most x)
@@ -175,7 +175,7 @@ abbrev Agrees : List Mark → (ℕ → Mark) → Type 0
 Agrees x f = (at w r : ℕ) → markAt x at ≡ marked w r → f at ≡ marked w r
 
 -- a mark after one more was set: it was there, or it is that one
-set-cases : (x : List Mark) (i j : ℕ) (v : Mark) {w r : ℕ} → getD (set x i (keepMark (getD x i unmarked) v)) j unmarked ≡ marked w r
+pub set-cases : (x : List Mark) (i j : ℕ) (v : Mark) {w r : ℕ} → getD (set x i (keepMark (getD x i unmarked) v)) j unmarked ≡ marked w r
     → (getD x j unmarked ≡ marked w r) ⊎ ((j ≡ i) × (v ≡ marked w r))
 set-cases [] i j v e = inl e
 set-cases (unmarked ∷ x) zero zero v e = inr (refl, e)

@@ -7,7 +7,7 @@ use native.Mathlib.Decide.{decLt}
 use native.Mathlib.Omega.{arith}
 use lib.Dec.{ltb}
 use lib.ListN.{length, getD, take, drop, length-append, drop-of-length-le, List·getD-eq-default}
-use lib.Seq.{take-at, drop-append-add}
+use lib.Seq.{take-at, drop-append-add, getD-take, getD-drop}
 use borrow.Author.Tests.{ltb-false, le-ltb}
 use Rattle.model.specs.Machine.{start}
 use Rattle.model.specs.Admission.{Mark, byteAt, Within, markAt, sheetRecord, recordOf, sheetOf, recordAt, markOf, markIn}
@@ -26,6 +26,11 @@ length-sheet (x ∷ marks) [] l = absurd (omega arith)
 length-sheet (x ∷ marks) (byte ∷ program) l =
     simp (length-append, length-record, length-sheet marks program (omega arith)) (omega arith)
 
+-- byte k of record i
+pub record-byte : (sheet : List ℕ) (i k : ℕ) → k < sheetRecord
+    → getD (take sheetRecord (drop (sheetRecord * i) sheet)) k 0 ≡ getD sheet (sheetRecord * i + k) 0
+record-byte sheet i k h = getD-take sheetRecord (drop (sheetRecord * i) sheet) k 0 h ∙ getD-drop (sheetRecord * i) sheet k 0
+
 -- the first record, and those after it
 first-record : (x : Mark) (byte : ℕ) (rest : List ℕ) → take sheetRecord (recordOf x byte ++ rest) ≡ recordOf x byte
 first-record x byte rest = take-at (recordOf x byte) rest sheetRecord (length-record x byte)
@@ -35,7 +40,7 @@ next-record x byte i rest =
     let e : sheetRecord * suc i ≡ length (recordOf x byte) + sheetRecord * i = omega (arith, length-record x byte) in
     rw e (drop-append-add (recordOf x byte) rest (sheetRecord * i))
 
-record-index : (marks : List Mark) (program : List ℕ) (i : ℕ) → length marks ≡ length program → i < length program
+pub record-index : (marks : List Mark) (program : List ℕ) (i : ℕ) → length marks ≡ length program → i < length program
     → take sheetRecord (drop (sheetRecord * i) (sheetOf marks program)) ≡ recordOf (getD marks i unmarked) (getD program i 0)
 unfolding sheetOf
 record-index [] program i l h = absurd (omega arith)

@@ -1,0 +1,72 @@
+-- Laws of one instruction: the depths after it, and where it jumps. Assumes nothing.
+use mathlib.Core.Path.{_≡_, refl, _∙_}
+use mathlib.Core.Bool.{Bool, true, false, cond}
+use mathlib.Core.List.{List, [], _∷_}
+use Prim.Native.Nat.{ℕ, _+_, _-_, _*_, _%_, _^_, _≤_}
+use native.Mathlib.Omega.{arith}
+use lib.Dec.{ltb}
+use lib.ListN.{getD}
+use borrow.Author.Tests.{ne-eqb, ltb-false, le-ltb}
+use Rattle.model.specs.Bytes.{number}
+use Rattle.model.specs.Machine.{start}
+use Rattle.model.specs.Instruction.{keepMode, lengthOf}
+use Rattle.model.specs.Admission.{Mark, byteAt, markAfter, successors}
+use Rattle.model.proofs.Computing.{decoding}
+use Rattle.admission.specs.Worklist.{jumpTarget, depthOr}
+
+-- no more goes than is taken
+pub lowered-most : (byte taken gone : ℕ) → gone ≡ cond (keepMode byte) 0 taken → gone ≤ taken
+lowered-most byte taken gone = by (keepMode byte)
+  where
+    by : (keep : Bool) → gone ≡ cond keep 0 taken → gone ≤ taken
+    by true e = omega arith
+    by false e = omega arith
+
+-- the byte at a place of the program
+pub byte-is : (program : List ℕ) (i : ℕ) → byteAt program (start + i) ≡ getD program i 0
+unfolding byteAt
+byte-is program i = let e : start + i - start ≡ i = omega arith in rw e
+
+pub target-is : (program : List ℕ) (i two r : ℕ) → two ≡ getD program (i + 1) 0 * 256 + getD program (i + 2) 0
+    → r ≡ (256 + 3 + i + two) % 2 ^ 16 → r ≡ jumpTarget program (start + i)
+unfolding byteAt number
+target-is program i two r e f =
+    let a : start + i + 1 - start ≡ i + 1 = omega arith in
+    let b : start + i + 2 - start ≡ i + 2 = omega arith in
+    rw (f, e, a, b) (omega arith)
+
+-- a depth of at most 255 is that of a stack that held the bytes taken
+pub depth-holds : (depth taken after n : ℕ) → n ≡ depthOr depth taken after → n ≤ 255 → (taken ≤ depth) × (n ≡ after)
+depth-holds depth taken after n = by (ltb depth taken) refl
+  where
+    by : (t : Bool) → ltb depth taken ≡ t → n ≡ cond t 256 after → n ≤ 255 → (taken ≤ depth) × (n ≡ after)
+    by true h e l = absurd (omega arith)
+    by false h e l = (ltb-false depth taken h, e)
+
+-- and if the stack holds them, the depth is that
+pub depth-is : (depth taken after n : ℕ) → n ≡ depthOr depth taken after → taken ≤ depth → n ≡ after
+depth-is depth taken after n e h = e ∙ rw (le-ltb depth taken h)
+
+-- ---- the addresses where an instruction goes on
+
+module _ (program : List ℕ) (at w r : ℕ) where
+  abbrev mark : Mark
+  mark = markAfter (byteAt program at) w r
+
+  pub after-brk : byteAt program at ≡ 0x00 → successors program at w r ≡ []
+  unfolding successors
+  after-brk e = rw e
+
+  pub after-jmi : byteAt program at ≡ 0x40 → successors program at w r ≡ ((jumpTarget program at, mark) ∷ [])
+  unfolding successors decoding
+  after-jmi e = rw e
+
+  pub after-jci : byteAt program at ≡ 0x20
+      → successors program at w r ≡ ((at + lengthOf (byteAt program at), mark) ∷ (jumpTarget program at, mark) ∷ [])
+  unfolding successors decoding
+  after-jci e = rw e
+
+  pub after-other : (byteAt program at ≡ 0x00 → ⊥) → (byteAt program at ≡ 0x40 → ⊥) → (byteAt program at ≡ 0x20 → ⊥)
+      → successors program at w r ≡ ((at + lengthOf (byteAt program at), mark) ∷ [])
+  unfolding successors
+  after-other brk jmi jci = rw (ne-eqb _ _ brk, ne-eqb _ _ jmi, ne-eqb _ _ jci)

@@ -1,0 +1,6 @@
+pub mod Calls
+pub mod Explored
+pub mod Instructions
+pub mod Sheets
+pub mod Visits
+pub mod Worklist

@@ -1,0 +1,70 @@
+-- `admission::follow` meets its contract. Assumes nothing.
+use mathlib.Core.Path.{_≡_}
+use native.Mathlib.Omega.{arith}
+use Rattle.admission.proofs.Visits as visits
+use borrow.Author.Needs.{needs}
+use Rattle.admission.proofs.follow.Statement.{statement}
+use Rattle.admission.proofs.follow.Tie as tie
+
+shared-slice-read-byte : tie.Need-shared-slice-read-byte
+shared-slice-read-byte c = visits.inside _ _ _ _ (c .before .before .before .pre .0) _ (c .before .before .before .pre .1)
+
+returns : tie.Need-returns
+returns c = visits.brk-ends _ _ _ _ (c .before .before .before .before .pre .0) _ (c .before .before .before .before .pre .1) _ _ _ (c .before .before .before .before .pre .2) (c .if1 .taken)
+
+target-requires : tie.Need-target-requires
+target-requires c κs = (visits.jump-inside _ _ _ _ (c .before .before .before .before .before .before .before .pre .0) _ (c .before .before .before .before .before .before .before .pre .1) _ _ _ (c .before .before .before .before .before .before .before .pre .2) (c .before .before .if2 .taken), c .before .before .before .before .before .before .before .pre .0 .most)
+
+reach-requires : tie.Need-reach-requires
+reach-requires c κs = (c .before .before .before .before .before .before .before .before .pre .0, visits.forced-jump _ _ _ _ (c .before .before .before .before .before .before .before .before .pre .0) _ (c .before .before .before .before .before .before .before .before .pre .1) _ _ _ (c .before .before .before .before .before .before .before .before .pre .2) (c .before .before .before .if2 .taken) _ (c .target .ensures))
+
+returns-2 : tie.Need-returns-2
+returns-2 c = visits.jump-ends _ _ _ _ (c .before .before .before .before .before .before .before .before .before .before .before .pre .0) _ (c .before .before .before .before .before .before .before .before .before .before .before .pre .1) _ _ _ (c .before .before .before .before .before .before .before .before .before .before .before .pre .2) _ _ (c .before .before .before .before .before .before .if2 .taken) _ (c .before .before .before .target .ensures) (c .before .before .reach .result) (c .before .before .reach .ensures)
+
+cast-reach : tie.Need-cast-reach
+cast-reach c = omega (arith, c .before .before .before .before .before .before .before .pre .2 .whole, c .before .before .before .before .before .before .before .pre .0 .most)
+
+add-reach : tie.Need-add-reach
+add-reach c = omega (arith, c .before .before .before .before .before .before .before .pre .2 .whole, c .before .before .before .before .before .before .before .pre .0 .most)
+
+reach-requires-2 : tie.Need-reach-requires-2
+reach-requires-2 c κs = (c .before .before .before .before .before .before .before .pre .0, visits.forced-next _ _ _ _ (c .before .before .before .before .before .before .before .pre .0) _ (c .before .before .before .before .before .before .before .pre .1) _ _ _ (c .before .before .before .before .before .before .before .pre .2) (c .before .before .before .if1 .left) (c .before .before .if2 .left))
+
+returns-3 : tie.Need-returns-3
+returns-3 c = visits.next-ends _ _ _ _ (c .before .before .before .before .before .before .before .before .before .before .before .pre .0) _ (c .before .before .before .before .before .before .before .before .before .before .before .pre .1) _ _ _ (c .before .before .before .before .before .before .before .before .before .before .before .pre .2) _ _ (c .before .before .before .before .before .before .before .if1 .left) (c .before .before .before .before .before .before .if2 .left) (c .if3 .taken) (c .before .before .before .reach2 .result) (c .before .before .before .reach2 .ensures)
+
+returns-4 : tie.Need-returns-4
+returns-4 c = visits.refuted _ _ _ _ _ _ _ (c .before .before .before .before .before .reach2 .result) (c .before .match .keys2) (c .before .before .before .before .before .reach2 .ensures)
+
+target-requires-2 : tie.Need-target-requires-2
+target-requires-2 c κs = (visits.branch-inside _ _ _ _ (c .before .before .before .before .before .before .before .before .before .before .before .before .before .before .before .before .pre .0) _ (c .before .before .before .before .before .before .before .before .before .before .before .before .before .before .before .before .pre .1) _ _ _ (c .before .before .before .before .before .before .before .before .before .before .before .before .before .before .before .before .pre .2) (c .before .before .before .before .before .if3 .left), c .before .before .before .before .before .before .before .before .before .before .before .before .before .before .before .before .pre .0 .most)
+
+reach-requires-3 : tie.Need-reach-requires-3
+reach-requires-3 c κs = (visits.went-on _ _ _ _ _ _ _ (c .before .before .before .before .before .before .before .before .before .reach2 .result) _ (c .before .before .before .before .next .given .1) (c .before .before .before .before .before .before .before .before .before .reach2 .ensures) .0 .list, visits.forced-branch _ _ _ _ (c .before .before .before .before .before .before .before .before .before .before .before .before .before .before .before .before .before .pre .0) _ (c .before .before .before .before .before .before .before .before .before .before .before .before .before .before .before .before .before .pre .1) _ _ _ (c .before .before .before .before .before .before .before .before .before .before .before .before .before .before .before .before .before .pre .2) (c .before .before .before .before .before .before .if3 .left) _ (c .target2 .ensures))
+
+returns-5 : tie.Need-returns-5
+returns-5 c = visits.branch-ends _ _ _ _ (c .before .before .before .before .before .before .before .before .before .before .before .before .before .before .before .before .before .before .before .before .pre .0) _ (c .before .before .before .before .before .before .before .before .before .before .before .before .before .before .before .before .before .before .before .before .pre .1) _ _ _ (c .before .before .before .before .before .before .before .before .before .before .before .before .before .before .before .before .before .before .before .before .pre .2) _ _ _ (c .before .before .before .before .before .before .before .before .before .if3 .left) (visits.went-on _ _ _ _ _ _ _ (c .before .before .before .before .before .before .before .before .before .before .before .before .reach2 .result) _ (c .before .before .before .before .before .before .before .next .given .1) (c .before .before .before .before .before .before .before .before .before .before .before .before .reach2 .ensures)) _ _ _ (c .before .before .before .target2 .ensures) (c .before .before .reach3 .result) (c .before .before .reach3 .ensures)
+
+pub follow-spec : {M : Type 1} → statement M
+follow-spec =
+    tie.close
+    (tie.spec
+    shared-slice-read-byte
+    returns
+    target-requires
+    reach-requires
+    (λ c. search needs)
+    returns-2
+    cast-reach
+    add-reach
+    reach-requires-2
+    (λ c. search needs)
+    returns-3
+    (λ c. search needs)
+    (λ c. search needs)
+    (λ c. search needs)
+    returns-4
+    target-requires-2
+    reach-requires-3
+    (λ c. search needs)
+    returns-5)
