@@ -1,12 +1,12 @@
 -- Laws of one instruction: the depths after it, and where it jumps. Assumes nothing.
-use mathlib.Core.Path.{_≡_, refl, _∙_}
+use mathlib.Core.Path.{_≡_, refl, sym, ap, _∙_}
 use mathlib.Core.Bool.{Bool, true, false, cond}
 use mathlib.Core.List.{List, [], _∷_}
-use Prim.Native.Nat.{ℕ, _+_, _-_, _*_, _%_, _^_, _≤_}
+use Prim.Native.Nat.{ℕ, _+_, _-_, _*_, _%_, _^_, _≤_, _<_}
 use native.Mathlib.Omega.{arith}
 use lib.Dec.{ltb}
 use lib.ListN.{getD}
-use borrow.Author.Tests.{ne-eqb, ltb-false, le-ltb}
+use borrow.Author.Tests.{ne-eqb, ltb-false, lt-ltb, le-ltb}
 use Rattle.model.specs.Bytes.{number}
 use Rattle.model.specs.Machine.{start}
 use Rattle.model.specs.Instruction.{keepMode, lengthOf}
@@ -34,6 +34,13 @@ target-is program i two r e f =
     let a : start + i + 1 - start ≡ i + 1 = omega arith in
     let b : start + i + 2 - start ≡ i + 2 = omega arith in
     rw (f, e, a, b) (omega arith)
+
+-- the two sides of the test
+pub depth-short : (depth taken after : ℕ) → depth < taken → 256 ≡ depthOr depth taken after
+depth-short depth taken after h = rw (lt-ltb depth taken h)
+
+pub depth-enough : (depth taken after n : ℕ) → taken ≤ depth → n ≡ after → n ≡ depthOr depth taken after
+depth-enough depth taken after n h e = e ∙ sym (rw (le-ltb depth taken h))
 
 -- a depth of at most 255 is that of a stack that held the bytes taken
 pub depth-holds : (depth taken after n : ℕ) → n ≡ depthOr depth taken after → n ≤ 255 → (taken ≤ depth) × (n ≡ after)

@@ -113,7 +113,7 @@ fn depth_by_table(rows: &[u8; 1280], byte: u8, k: usize, depth: u8) -> u16
 }
 
 // Where JMI, and JCI if it jumps, goes on from place i of the program: the offset is counted from the address after it.
-fn target(program: &[u8], i: usize) -> u16
+fn jump_target(program: &[u8], i: usize) -> u16
     requires { ⌜ (i + 3 ≤ length (now program)) × (length (now program) ≤ admitMost) ⌝ }
     ensures { λ r. ⌜ r ≡ jumpTarget (now (program .entry)) (start + i) ⌝ }
 {
@@ -211,7 +211,15 @@ fn follow(
         return Next::Queued(tail);
     }
     if byte == JMI {
-        return reach(program, sheet, queue, tail, target(program, i), work, ret);
+        return reach(
+            program,
+            sheet,
+            queue,
+            tail,
+            jump_target(program, i),
+            work,
+            ret,
+        );
     }
     let next = reach(program, sheet, queue, tail, START + after as u16, work, ret);
     if byte != JCI {
@@ -220,7 +228,15 @@ fn follow(
     let Next::Queued(more) = next else {
         return Next::Refuted;
     };
-    reach(program, sheet, queue, more, target(program, i), work, ret)
+    reach(
+        program,
+        sheet,
+        queue,
+        more,
+        jump_target(program, i),
+        work,
+        ret,
+    )
 }
 
 // The rules at place i, which is marked.

@@ -12,14 +12,14 @@ shared-slice-read-byte c = visits.inside _ _ _ _ (c .before .before .before .pre
 returns : tie.Need-returns
 returns c = visits.brk-ends _ _ _ _ (c .before .before .before .before .pre .0) _ (c .before .before .before .before .pre .1) _ _ _ (c .before .before .before .before .pre .2) (c .if1 .taken)
 
-target-requires : tie.Need-target-requires
-target-requires c κs = (visits.jump-inside _ _ _ _ (c .before .before .before .before .before .before .before .pre .0) _ (c .before .before .before .before .before .before .before .pre .1) _ _ _ (c .before .before .before .before .before .before .before .pre .2) (c .before .before .if2 .taken), c .before .before .before .before .before .before .before .pre .0 .most)
+jump-target-requires : tie.Need-jump-target-requires
+jump-target-requires c κs = (visits.jump-inside _ _ _ _ (c .before .before .before .before .before .before .before .pre .0) _ (c .before .before .before .before .before .before .before .pre .1) _ _ _ (c .before .before .before .before .before .before .before .pre .2) (c .before .before .if2 .taken), c .before .before .before .before .before .before .before .pre .0 .most)
 
 reach-requires : tie.Need-reach-requires
-reach-requires c κs = (c .before .before .before .before .before .before .before .before .pre .0, visits.forced-jump _ _ _ _ (c .before .before .before .before .before .before .before .before .pre .0) _ (c .before .before .before .before .before .before .before .before .pre .1) _ _ _ (c .before .before .before .before .before .before .before .before .pre .2) (c .before .before .before .if2 .taken) _ (c .target .ensures))
+reach-requires c κs = (c .before .before .before .before .before .before .before .before .pre .0, visits.forced-jump _ _ _ _ (c .before .before .before .before .before .before .before .before .pre .0) _ (c .before .before .before .before .before .before .before .before .pre .1) _ _ _ (c .before .before .before .before .before .before .before .before .pre .2) (c .before .before .before .if2 .taken) _ (c .jump-target .ensures))
 
 returns-2 : tie.Need-returns-2
-returns-2 c = visits.jump-ends _ _ _ _ (c .before .before .before .before .before .before .before .before .before .before .before .pre .0) _ (c .before .before .before .before .before .before .before .before .before .before .before .pre .1) _ _ _ (c .before .before .before .before .before .before .before .before .before .before .before .pre .2) _ _ (c .before .before .before .before .before .before .if2 .taken) _ (c .before .before .before .target .ensures) (c .before .before .reach .result) (c .before .before .reach .ensures)
+returns-2 c = visits.jump-ends _ _ _ _ (c .before .before .before .before .before .before .before .before .before .before .before .pre .0) _ (c .before .before .before .before .before .before .before .before .before .before .before .pre .1) _ _ _ (c .before .before .before .before .before .before .before .before .before .before .before .pre .2) _ _ (c .before .before .before .before .before .before .if2 .taken) _ (c .before .before .before .jump-target .ensures) (c .before .before .reach .result) (c .before .before .reach .ensures)
 
 cast-reach : tie.Need-cast-reach
 cast-reach c = omega (arith, c .before .before .before .before .before .before .before .pre .2 .whole, c .before .before .before .before .before .before .before .pre .0 .most)
@@ -36,14 +36,14 @@ returns-3 c = visits.next-ends _ _ _ _ (c .before .before .before .before .befor
 returns-4 : tie.Need-returns-4
 returns-4 c = visits.refuted _ _ _ _ _ _ _ (c .before .before .before .before .before .reach2 .result) (c .before .match .keys2) (c .before .before .before .before .before .reach2 .ensures)
 
-target-requires-2 : tie.Need-target-requires-2
-target-requires-2 c κs = (visits.branch-inside _ _ _ _ (c .before .before .before .before .before .before .before .before .before .before .before .before .before .before .before .before .pre .0) _ (c .before .before .before .before .before .before .before .before .before .before .before .before .before .before .before .before .pre .1) _ _ _ (c .before .before .before .before .before .before .before .before .before .before .before .before .before .before .before .before .pre .2) (c .before .before .before .before .before .if3 .left), c .before .before .before .before .before .before .before .before .before .before .before .before .before .before .before .before .pre .0 .most)
+jump-target-requires-2 : tie.Need-jump-target-requires-2
+jump-target-requires-2 c κs = (visits.branch-inside _ _ _ _ (c .before .before .before .before .before .before .before .before .before .before .before .before .before .before .before .before .pre .0) _ (c .before .before .before .before .before .before .before .before .before .before .before .before .before .before .before .before .pre .1) _ _ _ (c .before .before .before .before .before .before .before .before .before .before .before .before .before .before .before .before .pre .2) (c .before .before .before .before .before .if3 .left), c .before .before .before .before .before .before .before .before .before .before .before .before .before .before .before .before .pre .0 .most)
 
 reach-requires-3 : tie.Need-reach-requires-3
-reach-requires-3 c κs = (visits.went-on _ _ _ _ _ _ _ (c .before .before .before .before .before .before .before .before .before .reach2 .result) _ (c .before .before .before .before .next .given .1) (c .before .before .before .before .before .before .before .before .before .reach2 .ensures) .0 .list, visits.forced-branch _ _ _ _ (c .before .before .before .before .before .before .before .before .before .before .before .before .before .before .before .before .before .pre .0) _ (c .before .before .before .before .before .before .before .before .before .before .before .before .before .before .before .before .before .pre .1) _ _ _ (c .before .before .before .before .before .before .before .before .before .before .before .before .before .before .before .before .before .pre .2) (c .before .before .before .before .before .before .if3 .left) _ (c .target2 .ensures))
+reach-requires-3 c κs = (visits.went-on _ _ _ _ _ _ _ (c .before .before .before .before .before .before .before .before .before .reach2 .result) _ (c .before .before .before .before .next .given .1) (c .before .before .before .before .before .before .before .before .before .reach2 .ensures) .0 .list, visits.forced-branch _ _ _ _ (c .before .before .before .before .before .before .before .before .before .before .before .before .before .before .before .before .before .pre .0) _ (c .before .before .before .before .before .before .before .before .before .before .before .before .before .before .before .before .before .pre .1) _ _ _ (c .before .before .before .before .before .before .before .before .before .before .before .before .before .before .before .before .before .pre .2) (c .before .before .before .before .before .before .if3 .left) _ (c .jump-target2 .ensures))
 
 returns-5 : tie.Need-returns-5
-returns-5 c = visits.branch-ends _ _ _ _ (c .before .before .before .before .before .before .before .before .before .before .before .before .before .before .before .before .before .before .before .before .pre .0) _ (c .before .before .before .before .before .before .before .before .before .before .before .before .before .before .before .before .before .before .before .before .pre .1) _ _ _ (c .before .before .before .before .before .before .before .before .before .before .before .before .before .before .before .before .before .before .before .before .pre .2) _ _ _ (c .before .before .before .before .before .before .before .before .before .if3 .left) (visits.went-on _ _ _ _ _ _ _ (c .before .before .before .before .before .before .before .before .before .before .before .before .reach2 .result) _ (c .before .before .before .before .before .before .before .next .given .1) (c .before .before .before .before .before .before .before .before .before .before .before .before .reach2 .ensures)) _ _ _ (c .before .before .before .target2 .ensures) (c .before .before .reach3 .result) (c .before .before .reach3 .ensures)
+returns-5 c = visits.branch-ends _ _ _ _ (c .before .before .before .before .before .before .before .before .before .before .before .before .before .before .before .before .before .before .before .before .pre .0) _ (c .before .before .before .before .before .before .before .before .before .before .before .before .before .before .before .before .before .before .before .before .pre .1) _ _ _ (c .before .before .before .before .before .before .before .before .before .before .before .before .before .before .before .before .before .before .before .before .pre .2) _ _ _ (c .before .before .before .before .before .before .before .before .before .if3 .left) (visits.went-on _ _ _ _ _ _ _ (c .before .before .before .before .before .before .before .before .before .before .before .before .reach2 .result) _ (c .before .before .before .before .before .before .before .next .given .1) (c .before .before .before .before .before .before .before .before .before .before .before .before .reach2 .ensures)) _ _ _ (c .before .before .before .jump-target2 .ensures) (c .before .before .reach3 .result) (c .before .before .reach3 .ensures)
 
 pub follow-spec : {M : Type 1} → statement M
 follow-spec =
@@ -51,7 +51,7 @@ follow-spec =
     (tie.spec
     shared-slice-read-byte
     returns
-    target-requires
+    jump-target-requires
     reach-requires
     (λ c. search needs)
     returns-2
@@ -64,7 +64,7 @@ follow-spec =
     (λ c. search needs)
     (λ c. search needs)
     returns-4
-    target-requires-2
+    jump-target-requires-2
     reach-requires-3
     (λ c. search needs)
     returns-5)
