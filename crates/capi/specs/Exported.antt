@@ -4,7 +4,7 @@ use Prim.Native.Nat.{ℕ}
 use Rattle.model.specs.Machine.{registers}
 use Rattle.model.specs.Run.{Answer, Reply}
 use Rattle.model.specs.Run.Answer.{Refused, Loaded, WentOn, Broke, Spent, Ignored, Admitted}
-use Rattle.model.specs.Calls.{numberOf}
+use Rattle.model.specs.Calls.{numberOf, AdmitResult}
 use Rattle.capi.specs.declared.Reply as C
 
 pub record Left : Type 0 where
@@ -33,3 +33,14 @@ exported r =
     left
     (record { machine = registers (r .state); steps = r .steps; number = numberOf (r .answer); answer = answerOf (r .answer); verdict = r .verdict })
     (r .state .memory) (r .state .devices) (r .state .work .bytes) (r .state .ret .bytes)
+
+-- What uxn_admit leaves: 0 or the number, and the sheet.
+pub record AdmitLeft : Type 0 where
+  pub number : ℕ
+  pub sheet : List ℕ
+
+abbrev pub admitLeft : ℕ → List ℕ → AdmitLeft
+admitLeft number sheet = record { number = number; sheet = sheet }
+
+abbrev pub exportedAdmit : AdmitResult → AdmitLeft
+exportedAdmit r = admitLeft (numberOf (r .answer)) (r .sheet)

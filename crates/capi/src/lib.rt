@@ -1,4 +1,5 @@
-// The calls on a machine as a static library for C: include/uxn_filter.h declares them, and says what each number means.
+// The calls as a static library for C: include/uxn_filter.h declares them, and says what each number means.
+use model::AdmitReply;
 use model::EventReply;
 use model::FrameReply;
 use model::LoadReply;
@@ -9,9 +10,9 @@ ghost use mathlib.Core.Path.{_≡_};
 ghost use mathlib.Core.List.{List};
 ghost use Prim.Native.Nat.{ℕ};
 ghost use Rattle.model.specs.Machine.{state};
-ghost use Rattle.model.specs.Calls.{loadCall, stepCall, runCall, eventCall, frameCall};
-ghost use Rattle.model.specs.Replies.{ofLoad, ofStep, ofRun, ofEvent, ofFrame};
-ghost use Rattle.capi.specs.Exported.{left, exported};
+ghost use Rattle.model.specs.Calls.{loadCall, stepCall, runCall, eventCall, frameCall, admitCall};
+ghost use Rattle.model.specs.Replies.{ofLoad, ofStep, ofRun, ofEvent, ofFrame, ofAdmit};
+ghost use Rattle.capi.specs.Exported.{left, exported, admitLeft, exportedAdmit};
 
 // The answers, as numbers.
 pub const REFUSED: u8 = 0;
@@ -179,6 +180,16 @@ fn of_frame(reply: FrameReply) -> Reply
     }
 }
 
+// 0 for a program that is admitted.
+fn of_admit(reply: AdmitReply) -> u8
+    ensures { λ r. ⌜ ((sheet : List ℕ) → admitLeft r sheet ≡ exportedAdmit (ofAdmit sheet reply)) ⌝ }
+{
+    match reply {
+        AdmitReply::Refused(n) => n,
+        AdmitReply::Admitted => 0,
+    }
+}
+
 // ---- the calls
 
 #[no_mangle]
@@ -255,4 +266,11 @@ pub extern "C" fn uxn_frame(
         ≡ exported (frameCall (now (frame .entry)) budget (state (now (memory .entry)) (now (devices .entry)) (now (work .entry)) (now (ret .entry)) machine)) ⌝ }
 {
     of_frame(machine::frame(machine, memory, devices, work, ret, frame, budget))
+}
+
+#[no_mangle]
+pub extern "C" fn uxn_admit(program: &[u8], sheet: &mut [u8]) -> u8
+    ensures { λ r. ⌜ admitLeft r (now (sheet .exit)) ≡ exportedAdmit (admitCall (now (program .entry)) (now (sheet .entry))) ⌝ }
+{
+    of_admit(admission::admit(program, sheet))
 }
