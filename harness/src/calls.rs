@@ -1,4 +1,4 @@
-//! The C interface: records, replies and the shapes of the five calls.
+//! The C interface: records, replies and the shape of the calls on a machine.
 
 pub const MEMORY: usize = 65_536;
 pub const PAGE: usize = 256;
@@ -6,6 +6,12 @@ pub const RECORD: usize = 64;
 pub const PROGRAM_START: u16 = 0x0100;
 /// A program fills memory from 0100 to FFFF at most.
 pub const PROGRAM_LIMIT: usize = MEMORY - PROGRAM_START as usize;
+/// A longer program is not admitted.
+pub const ADMIT_LIMIT: usize = 4_096;
+/// Bytes of a sheet for each program byte.
+pub const SHEET_RECORD: usize = 4;
+
+pub const ADMITTED: u8 = 0;
 
 pub const REFUSED: u8 = 0;
 pub const LOADED: u8 = 1;

@@ -2,17 +2,22 @@
 //!
 //! - `calls`, `library`: the C interface, and the proved library behind it;
 //! - `second`: the second, independent machine; `pair`: both side by side;
-//! - `random`, `assembler`, `programs`: where states and programs come from;
-//! - `peers`, `rust_core`, `workloads`, `timing`: the speed comparison.
+//! - `second_admission`: the second admission; `admissions`: the admissions side by side;
+//! - `random`, `assembler`, `programs`, `filters`: where states and programs come from;
+//! - `peers`, `rust_core`, `rust_admission`, `workloads`, `timing`: the speed comparison.
 
+pub mod admissions;
 pub mod assembler;
 pub mod calls;
+pub mod filters;
 pub mod library;
 pub mod pair;
 pub mod peers;
 pub mod programs;
 pub mod random;
+pub mod rust_admission;
 pub mod rust_core;
 pub mod second;
+pub mod second_admission;
 pub mod timing;
 pub mod workloads;

@@ -14,7 +14,7 @@ const GUARD: usize = 61;
 const GUARD_BYTE: u8 = 0xa5;
 const NAMES: [&str; 4] = ["memory", "device page", "working stack", "return stack"];
 /// Of a buffer that differs, so many bytes are shown.
-const SHOWN: usize = 8;
+pub(crate) const SHOWN: usize = 8;
 
 #[derive(Clone, Copy, PartialEq, Eq, Debug)]
 pub enum Part {
@@ -28,25 +28,25 @@ pub const PARTS: [Part; 4] = [Part::Memory, Part::DevicePage, Part::Working, Par
 pub const RIGHT_LENGTHS: [usize; 4] = [MEMORY, PAGE, PAGE, PAGE];
 
 /// A lent buffer with guard bytes on both sides.
-struct Guarded(Vec<u8>);
+pub(crate) struct Guarded(Vec<u8>);
 
 impl Guarded {
-    fn new(length: usize) -> Guarded {
+    pub(crate) fn new(length: usize) -> Guarded {
         let mut whole = vec![GUARD_BYTE; length + 2 * GUARD];
         whole[GUARD..GUARD + length].fill(0);
         Guarded(whole)
     }
 
-    fn bytes(&self) -> &[u8] {
+    pub(crate) fn bytes(&self) -> &[u8] {
         &self.0[GUARD..self.0.len() - GUARD]
     }
 
-    fn bytes_mut(&mut self) -> &mut [u8] {
+    pub(crate) fn bytes_mut(&mut self) -> &mut [u8] {
         let end = self.0.len() - GUARD;
         &mut self.0[GUARD..end]
     }
 
-    fn guards_stand(&self) -> bool {
+    pub(crate) fn guards_stand(&self) -> bool {
         let untouched = [GUARD_BYTE; GUARD];
         self.0[..GUARD] == untouched && self.0[self.0.len() - GUARD..] == untouched
     }
