@@ -3,6 +3,7 @@
 //! - `calls`, `library`: the C interface, and the proved library behind it;
 //! - `second`: the second, independent machine; `pair`: both side by side;
 //! - `second_admission`: the second admission; `admissions`: the admissions side by side;
+//! - `watch`: demand 3, watched step by step;
 //! - `random`, `assembler`, `programs`, `filters`: where states and programs come from;
 //! - `peers`, `rust_core`, `rust_admission`, `workloads`, `timing`: the speed comparison.
 
@@ -20,4 +21,5 @@ pub mod rust_core;
 pub mod second;
 pub mod second_admission;
 pub mod timing;
+pub mod watch;
 pub mod workloads;
