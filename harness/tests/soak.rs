@@ -4,10 +4,32 @@
 
 use std::time::{Duration, Instant, SystemTime, UNIX_EPOCH};
 
-use uxn_filter_harness::calls::{BROKE, PROGRAM_LIMIT, RECORD};
+use uxn_filter_harness::admissions::Admissions;
+use uxn_filter_harness::calls::{ADMIT_LIMIT, BROKE, PROGRAM_LIMIT, RECORD};
+use uxn_filter_harness::filters::{any, any_length, filter};
 use uxn_filter_harness::pair::{say, Pair, Part};
 use uxn_filter_harness::programs::{grammar_made, random_bytes};
 use uxn_filter_harness::random::{given, Random};
+use uxn_filter_harness::watch::{any_record, Watch, Watched};
+
+/// How many steps and admissions were compared, and steps watched.
+#[derive(Default)]
+struct Total {
+    steps: u64,
+    admissions: u64,
+    watched: u64,
+}
+
+impl Total {
+    fn text(&self) -> String {
+        let Total {
+            steps,
+            admissions,
+            watched,
+        } = self;
+        format!("{steps} compared steps, {admissions} compared admissions, {watched} watched steps")
+    }
+}
 
 #[test]
 fn soak() {
@@ -24,20 +46,21 @@ fn soak() {
     let start = Instant::now();
     let mut said = start;
     let mut seed = first;
-    let mut steps = 0;
+    let mut total = Total::default();
     while start.elapsed() < time {
-        steps += round(seed);
+        total.steps += round(seed);
+        total.admissions += admission_round(seed);
+        total.watched += watched_round(seed);
         seed = seed.wrapping_add(1);
         if said.elapsed() > Duration::from_secs(60) {
             said = Instant::now();
-            say(&format!(
-                "soak: seeds {first} to {seed}, {steps} compared steps"
-            ));
+            say(&format!("soak: seeds {first} to {seed}, {}", total.text()));
         }
     }
     let rounds = seed.wrapping_sub(first);
     say(&format!(
-        "soak: {rounds} rounds from seed {first}, {steps} compared steps"
+        "soak: {rounds} rounds from seed {first}, {}",
+        total.text()
     ));
 }
 
@@ -91,4 +114,46 @@ fn round(seed: u64) -> u64 {
         pair.run(budget);
     }
     pair.compared_steps
+}
+
+/// Programs of every kind into sheets, most of the right length; returns their number.
+fn admission_round(seed: u64) -> u64 {
+    let mut admissions = Admissions::new(seed);
+    let mut random = Random::new(seed);
+    for turn in 0..16 {
+        let length = any_length(&mut random, ADMIT_LIMIT + 1);
+        let program = any(&mut random, turn, length);
+        admissions.admit(&program);
+        if random.one_in(8) {
+            let sheet = random.below(8 * length + 1);
+            admissions.admit_into(&program, sheet);
+        }
+    }
+    admissions.calls()
+}
+
+/// A filter of the grammar with a list of frame calls, watched step by step; returns the steps.
+fn watched_round(seed: u64) -> u64 {
+    let mut random = Random::new(seed);
+    let length = any_length(&mut random, ADMIT_LIMIT);
+    let program = filter(&mut random, length);
+    let mut watch = Watch::admitted(&program).expect("a filter of the grammar");
+    if let Err(what) = watched_frames(&mut watch, &mut random) {
+        panic!("seed {seed}:\n  {}\n  {what}", watch.shown());
+    }
+    watch.steps
+}
+
+fn watched_frames(watch: &mut Watch, random: &mut Random) -> Watched<()> {
+    for _ in 0..10 {
+        watch.put_bytes(random);
+        let record = any_record(random);
+        let budget = random.below(1_000) as u32;
+        if random.one_in(8) {
+            watch.frame_in_wrong_buffers(random, &record, budget)?;
+        } else {
+            watch.frame(&record, budget)?;
+        }
+    }
+    Ok(())
 }
