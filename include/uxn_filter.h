@@ -41,15 +41,18 @@ typedef struct {
 #define UXN_SPENT 4   /* the budget is used up and the last instruction was not BRK */
 #define UXN_IGNORED 5 /* uxn_event: the device's vector is 0; nothing changed */
 
-/* uxn_reply.number, where the answer is UXN_REFUSED: the smallest that applies to the call */
+/* uxn_reply.number, where the answer is UXN_REFUSED, and what uxn_admit answers: the smallest that applies to the call */
 #define UXN_MEMORY_LENGTH 1         /* memory is not 65,536 bytes */
 #define UXN_DEVICE_PAGE_LENGTH 2    /* the device page is not 256 bytes */
 #define UXN_WORKING_STACK_LENGTH 3  /* the working stack is not 256 bytes */
 #define UXN_RETURN_STACK_LENGTH 4   /* the return stack is not 256 bytes */
-#define UXN_PROGRAM_LENGTH 5        /* uxn_load: the program is empty, or above 65,280 bytes */
+#define UXN_PROGRAM_LENGTH 5        /* the program is empty; uxn_load: or above 65,280 bytes */
 #define UXN_DEVICE_NUMBER 6         /* uxn_event: the device is above 15 */
 #define UXN_RECORD_LENGTH 7         /* uxn_frame: the record is not 64 bytes */
 #define UXN_RECORD_FORM 8           /* uxn_frame: the record's length byte is above 62, or a byte past its data is not 0 */
+#define UXN_ADMIT_LENGTH 9          /* uxn_admit: the program is above 4,096 bytes */
+#define UXN_SHEET_LENGTH 10         /* uxn_admit: the sheet is not four times the program's length */
+#define UXN_NO_ASSIGNMENT 11        /* uxn_admit: no depths obey the admission rules */
 
 typedef struct {
     uxn_machine machine; /* the record afterwards: give it to the next call */
@@ -82,6 +85,12 @@ uxn_reply uxn_event(uxn_machine machine, uint8_t *memory, size_t memory_length, 
 uxn_reply uxn_frame(uxn_machine machine, uint8_t *memory, size_t memory_length, uint8_t *device_page, size_t device_page_length,
                     uint8_t *working, size_t working_length, uint8_t *ret, size_t ret_length, const uint8_t *record,
                     size_t record_length, uint32_t budget);
+
+/* Admission of a program into a sheet, which has four bytes for each program byte, the first four for address 0x0100: 1 if the
+   program reaches the address and else 0, the depths of the working and of the return stack there, the program byte. Answers 0
+   if the program is admitted; the sheet is written then. Else it answers the number: 5, 9 and 10 leave the sheet as found, 11
+   leaves it all zero. The program stays as it is; the two must not overlap, and no pointer may be null. */
+uint8_t uxn_admit(const uint8_t *program, size_t program_length, uint8_t *sheet, size_t sheet_length);
 
 #ifdef __cplusplus
 }

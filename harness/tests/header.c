@@ -23,10 +23,23 @@ static void say(const char *call, uxn_reply r)
            r.verdict, r.machine.pc, r.machine.wp, r.machine.rp);
 }
 
+static void say_sheet(const uint8_t *program, size_t length, uint8_t *sheet, size_t sheet_length)
+{
+    size_t place;
+
+    printf("admit: %u, sheet", uxn_admit(program, length, sheet, sheet_length));
+    for (place = 0; place < sheet_length; place++)
+        printf(place % 4 ? " %02x" : ", %02x", sheet[place]);
+    printf("\n");
+}
+
 int main(void)
 {
     /* port F2 gets 1, then BRK: every frame is passed */
     static const uint8_t program[] = {0x80, 0x01, 0x80, 0xf2, 0x17, 0x00};
+    /* POP of the empty stack */
+    static const uint8_t refused[] = {0x02, 0x00};
+    uint8_t sheet[4 * sizeof program];
     uint8_t record[64];
     uxn_machine machine = {0x1234, 5, 6};
     uxn_reply reply;
@@ -47,5 +60,13 @@ int main(void)
     say("event", reply);
     reply = uxn_frame(reply.machine, BUFFERS, record, sizeof record - 1, 100);
     say("frame", reply);
+
+    say_sheet(program, sizeof program, sheet, sizeof sheet);
+    say_sheet(program, sizeof program, sheet, 8);
+    say_sheet(refused, sizeof refused, sheet, 8);
+    printf("admit: %d\n", uxn_admit(program, 0, sheet, 0) == UXN_PROGRAM_LENGTH);
+    printf("admit: %d\n", uxn_admit(memory, 4097, sheet, 0) == UXN_ADMIT_LENGTH);
+    printf("admit: %d\n", uxn_admit(program, sizeof program, sheet, 0) == UXN_SHEET_LENGTH);
+    printf("admit: %d\n", uxn_admit(refused, sizeof refused, sheet, 8) == UXN_NO_ASSIGNMENT);
     return 0;
 }

@@ -11,6 +11,13 @@ frame: answer 3, number 0, steps 4, verdict 1, pc 0106, wp 0, rp 0
 event: answer 5, number 0, steps 0, verdict 0, pc 0106, wp 0, rp 0
 event: answer 3, number 0, steps 4, verdict 0, pc 0106, wp 0, rp 0
 frame: answer 0, number 7, steps 0, verdict 0, pc 0106, wp 0, rp 0
+admit: 0, sheet, 01 00 00 80, 00 00 00 01, 01 01 00 80, 00 00 00 f2, 01 02 00 17, 01 00 00 00
+admit: 10, sheet, 01 00 00 80, 00 00 00 01
+admit: 11, sheet, 00 00 00 00, 00 00 00 00
+admit: 1
+admit: 1
+admit: 1
+admit: 1
 ";
 
 #[test]
