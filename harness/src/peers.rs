@@ -1,8 +1,8 @@
 //! The cores that are compared for speed: the proved library, the C core by each compiler that was
-//! there when this was built, and the core in safe Rust.
+//! there when this was built, and the core in safe Rust; and the admissions of library and Rust.
 
 use crate::calls::{Buffers, Machine, Reply};
-use crate::{library, rust_core};
+use crate::{library, rust_admission, rust_core};
 
 #[derive(Clone, Copy, PartialEq, Eq)]
 pub enum Kind {
@@ -65,6 +65,25 @@ pub fn cores() -> Vec<Core> {
             run: rust_core::run,
             frame: rust_core::frame,
             load: rust_core::load,
+        },
+    ]
+}
+
+pub struct Admission {
+    pub name: &'static str,
+    pub admit: fn(&[u8], &mut [u8]) -> u8,
+}
+
+/// The library first, then safe Rust.
+pub fn admissions() -> [Admission; 2] {
+    [
+        Admission {
+            name: "library",
+            admit: library::admit,
+        },
+        Admission {
+            name: "rust",
+            admit: rust_admission::admit,
         },
     ]
 }

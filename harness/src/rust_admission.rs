@@ -1,5 +1,6 @@
-//! An admission in safe Rust for the speed comparison: a list of addresses to be looked at, with
-//! the marks in the sheet. An address is put on the list once, when it is marked.
+//! An admission in safe Rust for the speed comparison: it follows the program as far as it is not
+//! marked, with the marks in the sheet and a list of the branches' targets still to be followed. An
+//! address is looked at once, when it is marked.
 
 use crate::calls::{ADMIT_LIMIT, SHEET_RECORD};
 
@@ -121,45 +122,53 @@ pub fn admit(program: &[u8], sheet: &mut [u8]) -> u8 {
 
 /// Nothing if a rule fails.
 fn mark_reached(program: &[u8], records: &mut [[u8; SHEET_RECORD]]) -> Option<()> {
-    let mut list = vec![0];
     records[0][0] = 1;
-    while let Some(place) = list.pop() {
-        let [_, working, ret, byte] = records[place];
-        let row = &ROWS[usize::from(byte)];
-        let after = place + usize::from(row.length);
-        if row.way == Way::Forbidden
-            || after > program.len()
-            || working < row.needed[0]
-            || ret < row.needed[1]
-        {
-            return None;
-        }
-        let working = (working - row.removed[0]).checked_add(row.pushed[0])?;
-        let ret = (ret - row.removed[1]).checked_add(row.pushed[1])?;
-
-        let mut go_on = |to: usize| {
-            let record = records.get_mut(to)?;
-            if record[0] == 0 {
-                *record = [1, working, ret, record[3]];
-                list.push(to);
-                return Some(());
+    let mut list = vec![0];
+    while let Some(mut place) = list.pop() {
+        let [_, mut working, mut ret, _] = records[place];
+        loop {
+            let row = &ROWS[usize::from(program[place])];
+            let after = place + usize::from(row.length);
+            if row.way == Way::Forbidden
+                || after > program.len()
+                || working < row.needed[0]
+                || ret < row.needed[1]
+            {
+                return None;
             }
-            (record[1] == working && record[2] == ret).then_some(())
-        };
-        // A target below 0100 becomes a place far past the program.
-        let target = || {
-            let offset = u16::from_be_bytes([program[place + 1], program[place + 2]]);
-            usize::from((after as u16).wrapping_add(offset))
-        };
-        match row.way {
-            Way::Nowhere | Way::Forbidden => {}
-            Way::On => go_on(after)?,
-            Way::Target => go_on(target())?,
-            Way::Both => {
-                go_on(after)?;
-                go_on(target())?;
+            working = (working - row.removed[0]).checked_add(row.pushed[0])?;
+            ret = (ret - row.removed[1]).checked_add(row.pushed[1])?;
+            // A target below 0100 becomes a place far past the program.
+            let target = || {
+                let offset = u16::from_be_bytes([program[place + 1], program[place + 2]]);
+                usize::from((after as u16).wrapping_add(offset))
+            };
+            let next = match row.way {
+                Way::Nowhere | Way::Forbidden => break,
+                Way::On => after,
+                Way::Target => target(),
+                Way::Both => {
+                    if mark(records, target(), working, ret)? {
+                        list.push(target());
+                    }
+                    after
+                }
+            };
+            if !mark(records, next, working, ret)? {
+                break;
             }
+            place = next;
         }
     }
     Some(())
+}
+
+/// Whether the place is marked only now; nothing if it is outside or has other depths.
+fn mark(records: &mut [[u8; SHEET_RECORD]], place: usize, working: u8, ret: u8) -> Option<bool> {
+    let record = records.get_mut(place)?;
+    if record[0] == 0 {
+        *record = [1, working, ret, record[3]];
+        return Some(true);
+    }
+    (record[1] == working && record[2] == ret).then_some(false)
 }

@@ -1,12 +1,12 @@
-//! Timing of the cores, interleaved: in each round every core has its turn, and of each core the
-//! shortest turn counts.
+//! Timing of the cores and of the admissions, interleaved: in each round every one has its turn, and
+//! of each the shortest turn counts.
 
 use std::hint::black_box;
 use std::time::Instant;
 
-use crate::calls::{Buffers, Owned, Reply};
-use crate::peers::{Core, Kind};
-use crate::workloads::{filter, prepared, record, Workload};
+use crate::calls::{Buffers, Owned, Reply, ADMITTED, SHEET_RECORD};
+use crate::peers::{Admission, Core, Kind};
+use crate::workloads::{filter, prepared, record, Shape, Workload};
 
 /// Budget of the timed frame calls.
 const FRAME_BUDGET: u32 = 10_000;
@@ -121,11 +121,81 @@ fn time_repeated(repeats: u32, owned: &mut Owned, call: impl Fn(Buffers) -> Repl
     nanoseconds_since(from) / f64::from(repeats)
 }
 
-fn least_times(cores: &[Core], rounds: u32, mut time: impl FnMut(&Core) -> f64) -> Vec<f64> {
+/// Lengths of the programs that admission is timed with.
+pub const ADMITTED_LENGTHS: [usize; 4] = [512, 1_024, 2_048, 4_096];
+/// Program bytes in one turn of an admission.
+const BYTES_IN_A_TURN: usize = 32_768;
+
+/// A shape's nanoseconds of one admission: for each length the library's and those of safe Rust.
+pub struct Growth {
+    pub name: &'static str,
+    pub times: Vec<[f64; 2]>,
+}
+
+impl Growth {
+    /// The library's time over that of safe Rust, at one of the lengths.
+    pub fn ratio(&self, at: usize) -> f64 {
+        self.times[at][0] / self.times[at][1]
+    }
+
+    /// The greatest of these ratios.
+    pub fn greatest_ratio(&self) -> f64 {
+        (0..self.times.len()).fold(0.0, |greatest, at| greatest.max(self.ratio(at)))
+    }
+
+    /// The time for each byte at one of the lengths over that at the first: 1.0 where the time grows
+    /// as the length does.
+    pub fn per_byte(&self, of: usize, at: usize) -> f64 {
+        let each = |at: usize| self.times[at][of] / ADMITTED_LENGTHS[at] as f64;
+        each(at) / each(0)
+    }
+
+    /// The library's time at the last length over that at the first.
+    pub fn first_to_last(&self) -> f64 {
+        self.times[self.times.len() - 1][0] / self.times[0][0]
+    }
+}
+
+/// Panics unless both admit the program and write the same sheet.
+pub fn time_admissions(admissions: &[Admission; 2], shape: &Shape, rounds: u32) -> Growth {
+    let programs = ADMITTED_LENGTHS.map(shape.program);
+    let mut sheets = ADMITTED_LENGTHS.map(|length| vec![0; SHEET_RECORD * length]);
+    for (program, sheet) in programs.iter().zip(&mut sheets) {
+        let written = admissions.each_ref().map(|admission| {
+            let answer = (admission.admit)(program, sheet);
+            assert_eq!(answer, ADMITTED, "{}: {}", shape.name, admission.name);
+            sheet.clone()
+        });
+        assert!(written[0] == written[1], "{}: other sheets", shape.name);
+    }
+    // All lengths in each round, so that a slow while of the machine meets all of them.
+    let mut cells = Vec::new();
+    for length in 0..ADMITTED_LENGTHS.len() {
+        cells.extend(admissions.iter().map(|admission| (admission, length)));
+    }
+    let least = least_times(&cells, rounds, |&(admission, length)| {
+        let repeats = BYTES_IN_A_TURN / ADMITTED_LENGTHS[length];
+        let from = Instant::now();
+        for _ in 0..repeats {
+            black_box((admission.admit)(
+                black_box(&programs[length]),
+                &mut sheets[length],
+            ));
+        }
+        nanoseconds_since(from) / repeats as f64
+    });
+    Growth {
+        name: shape.name,
+        times: least.as_chunks::<2>().0.to_vec(),
+    }
+}
+
+/// The least time of each, in the order given.
+fn least_times<T>(cores: &[T], rounds: u32, mut time: impl FnMut(&T) -> f64) -> Vec<f64> {
     let mut least = vec![f64::INFINITY; cores.len()];
     for round in 0..rounds as usize {
         for turn in 0..cores.len() {
-            // Another core begins each round.
+            // Another one begins each round.
             let place = (round + turn) % cores.len();
             least[place] = least[place].min(time(&cores[place]));
         }

@@ -1,4 +1,5 @@
-//! The programs of the speed comparison. Each goes on for ever; the budget ends it.
+//! The programs of the speed comparison. Each of the workloads goes on for ever; the budget ends it.
+//! The shapes are for admission, and have any length.
 
 use crate::assembler::assemble;
 use crate::calls::{Machine, Owned, PROGRAM_START, RECORD};
@@ -112,6 +113,84 @@ const FILTER: &str = "
     LIT 80 LDZ LIT 04 LTH JCI =drop
     LIT 82 LDZ LIT 83 LDZ ADD LIT 84 LDZ EOR LIT 01 ORA LIT f2 DEO
     @drop BRK";
+
+/// A program for admission in any length.
+pub struct Shape {
+    pub name: &'static str,
+    pub program: fn(usize) -> Vec<u8>,
+}
+
+pub const SHAPES: [Shape; 3] = [
+    Shape {
+        name: "straight",
+        program: straight_code,
+    },
+    Shape {
+        name: "backward",
+        program: backward_jumps,
+    },
+    Shape {
+        name: "branches",
+        program: branches,
+    },
+];
+
+const BRK: u8 = 0x00;
+const JCI: u8 = 0x20;
+const JMI: u8 = 0x40;
+const INC: u8 = 0x01;
+const DUP: u8 = 0x06;
+
+/// Literals and operations one after the other, no jumps.
+fn straight_code(length: usize) -> Vec<u8> {
+    let part = assemble("LIT 10 LDZ LIT2 1234 DUP2 ADD2 LIT 04 SFT2 NIP EORk STH POPr ORA INC POP");
+    let mut code = assemble("LIT 00");
+    while code.len() + part.len() < length {
+        code.extend(&part);
+    }
+    code.resize(length - 1, INC);
+    code.push(BRK);
+    code
+}
+
+/// The first jump goes to the last one, and each of the others to the one before it, so that each is
+/// found late by a search that goes through the addresses in order. The second place is a BRK.
+fn backward_jumps(length: usize) -> Vec<u8> {
+    let jumps = length / 3;
+    let mut code = Vec::with_capacity(length);
+    for place in 0..jumps {
+        let target = match place {
+            0 => jumps - 1,
+            _ => place - 1,
+        };
+        code.extend(jump(JMI, 3 * place, 3 * target));
+    }
+    code[3] = BRK;
+    code.resize(length, BRK);
+    code
+}
+
+/// A branch in every four bytes, half the program ahead or back. Regular, so that the processor
+/// foresees the ways of a long program as well as those of a short one.
+fn branches(length: usize) -> Vec<u8> {
+    let mut code = assemble("LIT 00");
+    let start = code.len();
+    let count = (length - start - 1) / 4;
+    for place in 0..count {
+        let target = start + 4 * ((place + count / 2) % count);
+        code.push(DUP);
+        code.extend(jump(JCI, code.len(), target));
+    }
+    code.resize(length - 1, INC);
+    code.push(BRK);
+    code
+}
+
+/// JMI or JCI at a place, to another place.
+fn jump(byte: u8, from: usize, to: usize) -> [u8; 3] {
+    let [high, low] = (to as u16).wrapping_sub(from as u16 + 3).to_be_bytes();
+    [byte, high, low]
+}
 
 pub fn workloads() -> Vec<Workload> {
     SOURCES
