@@ -42,17 +42,28 @@ impl Admissions {
         self.admit_into(program, SHEET_RECORD * program.len())
     }
 
-    /// Admission into a sheet of the length given, which is filled with a pattern before.
+    /// Admission into a sheet of the length given.
     pub fn admit_into(&mut self, program: &[u8], sheet_length: usize) -> u8 {
+        self.compare(program, &[], sheet_length)
+    }
+
+    /// Admission of a program after which other bytes stand that are not lent.
+    pub fn admit_before(&mut self, program: &[u8], others: &[u8]) -> u8 {
+        self.compare(program, others, SHEET_RECORD * program.len())
+    }
+
+    /// The sheet is filled with a pattern before the call.
+    fn compare(&mut self, program: &[u8], others: &[u8], sheet_length: usize) -> u8 {
         self.calls += 1;
         self.program_bytes += program.len() as u64;
         let found = pattern(sheet_length, self.calls);
 
-        let mut given = Guarded::new(program.len());
-        given.bytes_mut().copy_from_slice(program);
+        let whole = [program, others].concat();
+        let mut given = Guarded::new(whole.len());
+        given.bytes_mut().copy_from_slice(&whole);
         let mut sheet = Guarded::new(sheet_length);
         sheet.bytes_mut().copy_from_slice(&found);
-        let mine = library::admit(given.bytes(), sheet.bytes_mut());
+        let mine = library::admit(&given.bytes()[..program.len()], sheet.bytes_mut());
 
         let mut second_sheet = found.clone();
         let second = second_admission::admit(program, &mut second_sheet);
@@ -70,7 +81,7 @@ impl Admissions {
         if !sheet.guards_stand() {
             lines.push("  the library wrote outside the sheet".to_owned());
         }
-        if given.bytes() != program || !given.guards_stand() {
+        if given.bytes() != whole || !given.guards_stand() {
             lines.push("  the library wrote to the program".to_owned());
         }
         // What a refusal leaves, apart from what the others say of it.

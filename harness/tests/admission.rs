@@ -273,6 +273,25 @@ fn jumps_by_name() {
     }
 }
 
+/// A cut JMI is refused, though the bytes after the program, or zeros there, would make a jump to a
+/// marked address. (Any other cut instruction also goes on outside the program.)
+#[test]
+fn a_cut_jump_is_refused_whatever_stands_after_it() {
+    let mut admissions = Admissions::new(0);
+    for place in [0, 3, 30, 300] {
+        // Jumps to the next address; 47 of the last program, in an offset, is a BRK.
+        let mut program = [0x40, 0x00, 0x00].repeat(place / 3);
+        let to_itself = [0x40, 0xff, 0xfd];
+        program.extend(to_itself);
+        assert_eq!(admissions.admit(&program), ADMITTED);
+        for there in [1, 2] {
+            let (cut, rest) = program.split_at(place + there);
+            assert_eq!(admissions.admit_before(cut, rest), NOT_ADMITTED);
+            assert_eq!(admissions.admit_before(cut, &[0x00; 4]), NOT_ADMITTED);
+        }
+    }
+}
+
 /// Lengths and sheets: 5, 9 and 10 in their order, and the sheet as found.
 #[test]
 fn lengths_and_sheets() {

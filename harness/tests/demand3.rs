@@ -3,12 +3,12 @@
 //! and with calls that are refused. Every call is made as one and again step by step.
 
 use uxn_filter_harness::calls::{Reply, ADMIT_LIMIT, BROKE, RECORD, REFUSED, SPENT};
-use uxn_filter_harness::filters::{any_length, filter};
+use uxn_filter_harness::filters::{any_length, changed, filter};
 use uxn_filter_harness::pair::say;
 use uxn_filter_harness::random::{seed, Random};
 use uxn_filter_harness::watch::{any_record, Watch, Watched};
 
-const FILTERS: usize = 1_000;
+const FILTERS: usize = 1_500;
 const CALLS: usize = 40;
 const BUDGETS: [u32; 8] = [0, 1, 2, 7, 30, 100, 500, 2_000];
 
@@ -49,15 +49,29 @@ fn frames(watch: &mut Watch, random: &mut Random, answers: &mut Answers) -> Watc
     Ok(())
 }
 
+/// A filter of the grammar, or by turns one that is still admitted after some changes.
+fn next_filter(random: &mut Random, turn: usize) -> Watch {
+    loop {
+        let length = any_length(random, ADMIT_LIMIT);
+        let mut program = filter(random, length);
+        let changes = turn % 4;
+        for _ in 0..changes {
+            program = changed(random, &program);
+        }
+        match Watch::admitted(&program) {
+            Ok(watch) => return watch,
+            Err(what) => assert!(changes > 0, "a filter of the grammar: {what}"),
+        }
+    }
+}
+
 #[test]
 fn admitted_filters_keep_to_their_sheets() {
     let mut random = Random::new(seed());
     let mut answers = Answers::default();
     let mut steps = 0;
     for turn in 0..FILTERS {
-        let length = any_length(&mut random, ADMIT_LIMIT);
-        let program = filter(&mut random, length);
-        let mut watch = Watch::admitted(&program).expect("a filter of the grammar");
+        let mut watch = next_filter(&mut random, turn);
         let watched = frames(&mut watch, &mut random, &mut answers);
         if let Err(what) = watched {
             let shown = watch.shown();
