@@ -19,7 +19,7 @@ const ROUNDS: [u32; 3] = [30, 60, 120];
 const ADMISSION_BAR: f64 = 2.5;
 /// From 512 to 4,096 bytes; 8 is linear.
 const GROWTH_BAR: f64 = 10.0;
-const ADMISSION_ROUNDS: [u32; 3] = [100, 300, 1_000];
+const ADMISSION_ROUNDS: [u32; 3] = [100, 200, 400];
 
 /// What is timed is timed alone.
 static ALONE: Mutex<()> = Mutex::new(());
