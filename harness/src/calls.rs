@@ -41,6 +41,17 @@ pub struct Reply {
 
 const _: () = assert!(size_of::<Machine>() == 4 && size_of::<Reply>() == 12);
 
+/// A refusal: its number, 0 steps, verdict 0 and the record as it was given.
+pub fn refused(machine: Machine, number: u8) -> Reply {
+    Reply {
+        machine,
+        steps: 0,
+        number,
+        answer: REFUSED,
+        verdict: 0,
+    }
+}
+
 /// The four buffers that every call is lent.
 pub struct Buffers<'a> {
     pub memory: &'a mut [u8],

@@ -2,8 +2,8 @@
 //! byte.
 
 use crate::calls::{
-    Buffers, Machine, Reply, BROKE, LOADED, MEMORY, PAGE, PROGRAM_LIMIT, PROGRAM_START, RECORD,
-    REFUSED, SPENT,
+    refused, Buffers, Machine, Reply, BROKE, LOADED, MEMORY, PAGE, PROGRAM_LIMIT, PROGRAM_START,
+    RECORD, REFUSED, SPENT,
 };
 
 struct Core<'a> {
@@ -318,16 +318,6 @@ impl Core<'_> {
             answer,
             verdict: 0,
         }
-    }
-}
-
-fn refused(machine: Machine, number: u8) -> Reply {
-    Reply {
-        machine,
-        steps: 0,
-        number,
-        answer: REFUSED,
-        verdict: 0,
     }
 }
 

@@ -4,8 +4,8 @@
 
 use crate::admissions::shown;
 use crate::calls::{
-    Buffers, Machine, Owned, Reply, ADMITTED, BROKE, LOADED, MEMORY, PAGE, PROGRAM_START, RECORD,
-    REFUSED, SHEET_RECORD, SPENT,
+    refused, Buffers, Machine, Owned, Reply, ADMITTED, BROKE, LOADED, MEMORY, PAGE, PROGRAM_START,
+    RECORD, REFUSED, SHEET_RECORD, SPENT,
 };
 use crate::library;
 use crate::random::Random;
@@ -39,16 +39,6 @@ fn record_refusal(record: &[u8]) -> Option<u8> {
     let past_the_data = usize::from(record[0]) + 2;
     let good = past_the_data <= RECORD && record[past_the_data..].iter().all(|&byte| byte == 0);
     (!good).then_some(8)
-}
-
-fn refused(machine: Machine, number: u8) -> Reply {
-    Reply {
-        machine,
-        steps: 0,
-        number,
-        answer: REFUSED,
-        verdict: 0,
-    }
 }
 
 fn hold(held: bool, what: impl FnOnce() -> String) -> Watched<()> {

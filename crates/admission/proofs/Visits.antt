@@ -88,15 +88,18 @@ module _ (program sheet queue : List ℕ) (tail : ℕ) (list : Listed program sh
   pub too-long : (size : ℕ) → size ≡ lengthOf byte → length program < i + size → Assignable program → ⊥
   too-long size e h a = omega (arith, rw (byte-is program i) at (rules a .inside))
 
+  -- the stack k, whose depth is d, does not hold the bytes taken, or its depth after is above 255
+  depth-fails : (k d n : ℕ) → n ≡ depthOr d (takenFrom k byte) (depthAfter k byte d) → 255 < n
+      → (takenFrom k (byteAt program at) ≤ d) × (depthAfter k (byteAt program at) d ≤ 255) → ⊥
+  depth-fails k d n e h q =
+      let t = rw (byte-is program i) at (q .0) in
+      omega (arith, depth-is d (takenFrom k byte) (depthAfter k byte d) n e t, rw (byte-is program i) at (q .1))
+
   pub work-fails : (n : ℕ) → n ≡ depthOr w (takenFrom working byte) (depthAfter working byte w) → 255 < n → Assignable program → ⊥
-  work-fails n e h a =
-      let q = rw (byte-is program i) at (rules a .work) in
-      omega (arith, depth-is w (takenFrom working byte) (depthAfter working byte w) n e q, rw (byte-is program i) at (rules a .workTop))
+  work-fails n e h a = depth-fails working w n e h (rules a .work, rules a .workTop)
 
   pub ret-fails : (n : ℕ) → n ≡ depthOr r (takenFrom returning byte) (depthAfter returning byte r) → 255 < n → Assignable program → ⊥
-  ret-fails n e h a =
-      let q = rw (byte-is program i) at (rules a .ret) in
-      omega (arith, depth-is r (takenFrom returning byte) (depthAfter returning byte r) n e q, rw (byte-is program i) at (rules a .retTop))
+  ret-fails n e h a = depth-fails returning r n e h (rules a .ret, rules a .retTop)
 
   -- ---- none of the rules before the last fails
 
@@ -115,13 +118,16 @@ module _ (program sheet queue : List ℕ) (tail : ℕ) (list : Listed program sh
     next-is = rw (byte-is program i) (omega (arith, t .next))
 
     -- JMI and JCI have three bytes
+    three-inside : lengthOf byte ≡ 3 → i + 3 ≤ length program
+    three-inside e = omega (arith, t .next, t .whole)
+
     pub jump-inside : byte ≡ 0x40 → i + 3 ≤ length program
     unfolding decoding
-    jump-inside e = let f : lengthOf byte ≡ 3 = ap (λ b. lengthOf b) e in omega (arith, t .next, t .whole)
+    jump-inside e = three-inside (ap (λ b. lengthOf b) e)
 
     pub branch-inside : byte ≡ 0x20 → i + 3 ≤ length program
     unfolding decoding
-    branch-inside e = let f : lengthOf byte ≡ 3 = ap (λ b. lengthOf b) e in omega (arith, t .next, t .whole)
+    branch-inside e = three-inside (ap (λ b. lengthOf b) e)
 
     -- the successors, by the byte
     ends : byte ≡ 0x00 → successors program at w r ≡ []

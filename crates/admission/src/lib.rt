@@ -7,14 +7,11 @@ use table::entry;
 use table::table;
 ghost use mathlib.Core.Path.{_≡_};
 ghost use mathlib.Core.Bool.{cond, not};
-ghost use mathlib.Core.List.{[], _∷_};
 ghost use Prim.Native.Nat.{_+_, _-_, _*_, _≤_, _<_};
-ghost use lib.ListN.{length, getD, set, replicate};
-ghost use Rattle.model.specs.Bytes.{number};
+ghost use lib.ListN.{length, set, replicate};
 ghost use Rattle.model.specs.Machine.{start};
 ghost use Rattle.model.specs.Instruction.{keepMode, takenFrom, RowTable};
-ghost use Rattle.model.specs.Step.{offset};
-ghost use Rattle.model.specs.Admission.{admitMost, allowed, sheetRecord, byteAt, depthAfter, sheetOf, markIn};
+ghost use Rattle.model.specs.Admission.{admitMost, allowed, sheetRecord, depthAfter, sheetOf, markIn};
 ghost use Rattle.model.specs.Admission.Mark.{unmarked, marked};
 ghost use Rattle.model.specs.Calls.{admitCall};
 ghost use Rattle.model.specs.Replies.{ofAdmit};
@@ -59,24 +56,31 @@ fn forbidden(byte: u8) -> bool
     ensures { λ r. ⌜ r ≡ not (allowed byte) ⌝ }
 {
     let operation = byte % 32;
+    // JMP
     if operation == 0x0C {
         return true;
     }
+    // JCN
     if operation == 0x0D {
         return true;
     }
+    // JSR
     if operation == 0x0E {
         return true;
     }
+    // STR
     if operation == 0x13 {
         return true;
     }
+    // STA
     if operation == 0x15 {
         return true;
     }
+    // JSI
     if byte == 0x60 {
         return true;
     }
+    // STZ in 16-bit form
     byte % 64 == 0x31
 }
 
