@@ -3,7 +3,7 @@
 
 use crate::calls::{
     refused, Buffers, Machine, Reply, BROKE, LOADED, MEMORY, PAGE, PROGRAM_LIMIT, PROGRAM_START,
-    RECORD, REFUSED, SPENT,
+    RECORD, SPENT,
 };
 
 struct Core<'a> {

@@ -5,7 +5,7 @@
 use crate::admissions::shown;
 use crate::calls::{
     refused, Buffers, Machine, Owned, Reply, ADMITTED, BROKE, LOADED, MEMORY, PAGE, PROGRAM_START,
-    RECORD, REFUSED, SHEET_RECORD, SPENT,
+    RECORD, SHEET_RECORD, SPENT,
 };
 use crate::library;
 use crate::random::Random;
