@@ -1,0 +1,27 @@
+-- `input::read_more` meets its contract. Assumes nothing.
+use native.Mathlib.Omega.{arith}
+use borrow.Author.Needs.{needs}
+use Rattle.input.proofs.Filled.{filled}
+use Rattle.input.proofs.read_more.Statement.{statement}
+use Rattle.input.proofs.read_more.Tie as tie
+
+returns-2 : tie.Need-returns-2
+returns-2 c = filled _ _ _ (omega arith) (omega arith)
+
+pub read-more-spec : {M : Type 1} → statement M
+read-more-spec =
+    tie.close
+    (tie.spec
+    (λ c. search needs)
+    (λ c. search needs)
+    (λ c. search needs)
+    (λ c κs. search needs)
+    (λ c. search needs)
+    (λ c. search needs)
+    (λ c. search needs)
+    (λ c. search needs)
+    (λ c. search needs)
+    (λ c κs. search needs)
+    (λ c. search needs)
+    (λ c. search needs)
+    returns-2)
