@@ -1,0 +1,98 @@
+// frames PROGRAM RECORDS: loads the program, makes a frame call for each whole record, and writes a line for each.
+mod block;
+mod stream;
+mod text;
+
+use input::Input;
+use input::read_to_end;
+use libc::STDERR_FILENO;
+use libc::STDOUT_FILENO;
+use model::LoadReply;
+use model::Machine;
+use stream::stream_records;
+use text::put_refused;
+
+// "A program refused at load gives that one line alone."
+fn refuse(number: u8) {
+    let mut line = [0u8; 12];
+    let n = put_refused(&mut line, 0, number);
+    if !io::write_all(STDOUT_FILENO, &line[..n]) {
+        os::fail(b"standard output");
+    }
+}
+
+// Both files are open; the paths are for messages.
+fn load_and_run(program: i32, program_path: &[u8], records: i32, records_path: &[u8]) {
+    // "Fresh stacks are 256 bytes of zero"
+    let mut memory = [0u8; 65536];
+    let mut devices = [0u8; 256];
+    let mut work = [0u8; 256];
+    let mut ret = [0u8; 256];
+    // One byte more than a load takes, so that a longer program is seen and refused.
+    let mut bytes = [0u8; 65281];
+    let Input::Bytes(n) = read_to_end(program, &mut bytes) else {
+        os::fail(program_path);
+        return;
+    };
+    let fresh = Machine {
+        pc: 0,
+        wp: 0,
+        rp: 0,
+    };
+    match machine::load(
+        fresh,
+        &mut memory,
+        &mut devices,
+        &mut work,
+        &mut ret,
+        &bytes[..n],
+    ) {
+        LoadReply::Refused(number, _) => refuse(number),
+        LoadReply::Loaded(m) => stream_records(
+            m,
+            &mut memory,
+            &mut devices,
+            &mut work,
+            &mut ret,
+            records,
+            records_path,
+        ),
+    }
+}
+
+fn main() {
+    if os::arg_count() != 3 {
+        io::write_all(STDERR_FILENO, b"usage: frames PROGRAM RECORDS\n");
+        return;
+    }
+    let mut program_path = io::buffer();
+    let program_length = os::arg(1, &mut program_path);
+    if os::errno() != 0 {
+        os::fail(b"PROGRAM");
+        return;
+    }
+    let mut records_path = io::buffer();
+    let records_length = os::arg(2, &mut records_path);
+    if os::errno() != 0 {
+        os::fail(b"RECORDS");
+        return;
+    }
+    let program = os::open_read(&program_path[..program_length]);
+    if program < 0 {
+        os::fail(&program_path[..program_length]);
+        return;
+    }
+    let records = os::open_read(&records_path[..records_length]);
+    if records < 0 {
+        os::fail(&records_path[..records_length]);
+        return;
+    }
+    load_and_run(
+        program,
+        &program_path[..program_length],
+        records,
+        &records_path[..records_length],
+    );
+    libc::close(program);
+    libc::close(records);
+}

@@ -1,0 +1,49 @@
+// The line of a reply: "pass", "drop", "spent", or "refused" with a space and the number.
+use buffers::place;
+use model::FrameReply;
+ghost use mathlib.Core.Path.{_≡_};
+ghost use mathlib.Core.List.{_++_};
+ghost use Prim.Native.Nat.{_+_, _≤_};
+ghost use lib.ListN.{length, take};
+ghost use Rattle.model.specs.Machine.{State};
+ghost use Rattle.model.specs.Replies.{ofFrame};
+ghost use Rattle.model.specs.declared.Machine.{Machine};
+ghost use Rattle.frames.specs.Lines.{refusedLine, line, lineMost};
+
+// Each function here puts text into `out` from `at` on, and answers the place after it; what stands before `at` stays.
+
+fn put(out: &mut [u8], at: usize, text: &[u8]) -> usize
+    requires { ⌜ at + length (now text) ≤ length (now out) ⌝ }
+    ensures { λ r. ⌜ (r ≡ at + length (now (text .entry))) × (take r (now (out .exit)) ≡ take at (now (out .entry)) ++ now (text .entry)) ⌝ }
+{
+    place(&mut out[at..], text);
+    at + text.len()
+}
+
+pub fn put_refused(out: &mut [u8], at: usize, number: u8) -> usize
+    requires { ⌜ at + lineMost ≤ length (now out) ⌝ }
+    ensures { λ r. ⌜ (r ≤ at + lineMost) × (take r (now (out .exit)) ≡ take at (now (out .entry)) ++ refusedLine number) ⌝ }
+{
+    let mut digits = [0u8; 20];
+    let n = io::decimal(number as u64, &mut digits);
+    let after_word = put(out, at, b"refused ");
+    let after_number = put(out, after_word, &digits[..n]);
+    put(out, after_number, b"\n")
+}
+
+pub fn put_line(out: &mut [u8], at: usize, reply: FrameReply) -> usize
+    requires { ⌜ at + lineMost ≤ length (now out) ⌝ }
+    ensures { λ r. ⌜ (r ≤ at + lineMost) × ((left : Machine → State) → take r (now (out .exit)) ≡ take at (now (out .entry)) ++ line (ofFrame left reply)) ⌝ }
+{
+    match reply {
+        FrameReply::Broke(_, _, verdict) => {
+            if verdict == 0 {
+                put(out, at, b"drop\n")
+            } else {
+                put(out, at, b"pass\n")
+            }
+        }
+        FrameReply::Spent(_, _) => put(out, at, b"spent\n"),
+        FrameReply::Refused(number, _) => put_refused(out, at, number),
+    }
+}
