@@ -14,7 +14,8 @@ ghost use Rattle.frames.specs.Frames.{wholeRecords, after, lines};
 // "with a budget of 10,000 steps a frame"
 const BUDGET: u32 = 10000;
 
-const RECORD: usize = 64;
+// "a record of exactly 64 bytes"
+pub const RECORD: usize = 64;
 
 // The machine record after the block, and how many bytes of lines there are.
 pub struct Done {

@@ -1,5 +1,6 @@
 // The record file, of any length and in whatever pieces it comes: what is there is read, its whole records are worked off,
 // their lines are written at once, and a part record waits at the start of the block for the rest of it.
+use crate::block::RECORD;
 use crate::block::frames;
 use input::Input;
 use input::read_more;
@@ -10,8 +11,6 @@ ghost use Prim.Native.Nat.{_-_, _≤_, _<_};
 ghost use lib.ListN.{length, take, drop};
 ghost use Rattle.frames.specs.Turns.{blockSize, linesSize, PartWaits};
 ghost use Rattle.model.specs.Calls.{frameSize};
-
-const RECORD: usize = 64;
 
 // What one read leaves: the machine record and the length of the part record that waits; or nothing more is to be done.
 pub enum Turn {
@@ -39,6 +38,7 @@ fn move_to_front(block: &mut [u8], start: usize, end: usize)
     }
 }
 
+// One read, and a line for each whole record that is there then.
 fn read_some(
     m: Machine,
     memory: &mut [u8],
