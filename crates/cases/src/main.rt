@@ -65,6 +65,18 @@ fn literals_case(program: &mut [u8], sheet: &mut [u8]) {
     say_admission(admit(program, sheet));
 }
 
+fn literals_255() {
+    let mut program = [0u8; 511];
+    let mut sheet = [0u8; 2044];
+    literals_case(&mut program, &mut sheet);
+}
+
+fn literals_256() {
+    let mut program = [0u8; 513];
+    let mut sheet = [0u8; 2052];
+    literals_case(&mut program, &mut sheet);
+}
+
 // A sheet, four bytes to a line.
 fn say_sheet(sheet: &[u8]) {
     let count = sheet.len() / 4;
@@ -149,12 +161,8 @@ fn length_case(program: &[u8], record: &[u8; 64]) {
 }
 
 fn main() {
-    let mut literals_255 = [0u8; 511];
-    let mut sheet_255 = [0u8; 2044];
-    literals_case(&mut literals_255, &mut sheet_255);
-    let mut literals_256 = [0u8; 513];
-    let mut sheet_256 = [0u8; 2052];
-    literals_case(&mut literals_256, &mut sheet_256);
+    literals_255();
+    literals_256();
 
     let program = [0x80u8, 0x01, 0x80, 0xF2, 0x17, 0x00];
     let zeros = [0u8; 64];
