@@ -21,19 +21,12 @@ fn refuse(number: u8) {
     }
 }
 
-// Both files are open; the paths are for messages.
-fn load_and_run(program: i32, program_path: &[u8], records: i32, records_path: &[u8]) {
+fn run(program: &[u8], records: i32, records_path: &[u8]) {
     // "Fresh stacks are 256 bytes of zero"
     let mut memory = [0u8; 65536];
     let mut devices = [0u8; 256];
     let mut work = [0u8; 256];
     let mut ret = [0u8; 256];
-    // One byte more than a load takes, so that a longer program is seen and refused.
-    let mut bytes = [0u8; 65281];
-    let Input::Bytes(n) = read_to_end(program, &mut bytes) else {
-        os::fail(program_path);
-        return;
-    };
     let fresh = Machine {
         pc: 0,
         wp: 0,
@@ -45,7 +38,7 @@ fn load_and_run(program: i32, program_path: &[u8], records: i32, records_path: &
         &mut devices,
         &mut work,
         &mut ret,
-        &bytes[..n],
+        program,
     ) {
         LoadReply::Refused(number, _) => refuse(number),
         LoadReply::Loaded(m) => stream_records(
@@ -58,6 +51,17 @@ fn load_and_run(program: i32, program_path: &[u8], records: i32, records_path: &
             records_path,
         ),
     }
+}
+
+// Both files are open; the paths are for messages.
+fn read_and_run(program: i32, program_path: &[u8], records: i32, records_path: &[u8]) {
+    // One byte more than a load takes, so that a longer program is seen and refused.
+    let mut bytes = [0u8; 65281];
+    let Input::Bytes(n) = read_to_end(program, &mut bytes) else {
+        os::fail(program_path);
+        return;
+    };
+    run(&bytes[..n], records, records_path);
 }
 
 fn main() {
@@ -87,7 +91,7 @@ fn main() {
         os::fail(&records_path[..records_length]);
         return;
     }
-    load_and_run(
+    read_and_run(
         program,
         &program_path[..program_length],
         records,
