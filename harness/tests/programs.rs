@@ -10,18 +10,21 @@ use std::thread;
 use std::time::{Duration, Instant};
 
 use uxn_filter_harness::assembler::assemble;
-use uxn_filter_harness::calls::{MEMORY, PAGE, PROGRAM_LIMIT, PROGRAM_START, RECORD};
+use uxn_filter_harness::calls::{
+    ADMIT_LIMIT, MEMORY, PAGE, PROGRAM_LIMIT, PROGRAM_START, RECORD, SHEET_RECORD,
+};
+use uxn_filter_harness::filters::{any, any_length};
 use uxn_filter_harness::pair::say;
 use uxn_filter_harness::programs::either;
 use uxn_filter_harness::random::{seed, Random};
 use uxn_filter_harness::second::{self, Answer, Parts, Record};
+use uxn_filter_harness::second_admission;
 
 const BUDGET: u32 = 10_000;
 /// A program that should have ended by then hangs.
 const PATIENCE: Duration = Duration::from_secs(20);
 /// Between pieces of input.
 const PAUSE: Duration = Duration::from_millis(5);
-const ADMIT_LIMIT: usize = 4_096;
 
 /// `80 01 80 F2 17 00`: passes every frame.
 const PASSES: [u8; 6] = [0x80, 0x01, 0x80, 0xf2, 0x17, 0x00];
@@ -691,6 +694,27 @@ fn sheets_of_every_length() {
     for length in [ADMIT_LIMIT + 1, ADMIT_LIMIT + 2, 65_536, 100_000] {
         assert_eq!(sheet_of(&vec![0; length]), [], "length {length}");
     }
+}
+
+/// Programs of every kind, about half of them admitted.
+#[test]
+fn sheets_beside_the_second_admission() {
+    let mut random = Random::new(seed());
+    let mut admitted = 0;
+    let programs = 300;
+    for turn in 0..programs {
+        let length = any_length(&mut random, ADMIT_LIMIT + 1);
+        let code = any(&mut random, turn, length);
+        let mut expected = vec![0; SHEET_RECORD * code.len()];
+        if second_admission::admit(&code, &mut expected) == 0 {
+            admitted += 1;
+        } else {
+            expected.clear();
+        }
+        assert!(sheet_of(&code) == expected, "turn {turn}");
+    }
+    say(&format!("sheet: {admitted} of {programs} are admitted"));
+    assert!((programs / 4..=programs * 3 / 4).contains(&admitted));
 }
 
 #[test]
