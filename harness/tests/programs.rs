@@ -148,6 +148,17 @@ fn assert_only_complains(output: &Output, words: &str) {
     );
 }
 
+/// How the program is called, and what it does.
+fn assert_only_helps(output: &Output, usage: &str) {
+    let said = String::from_utf8_lossy(&output.stderr);
+    assert_eq!(String::from_utf8_lossy(&output.stdout), "", "{said}");
+    assert_eq!(said.lines().next(), Some(usage));
+    assert!(
+        said.ends_with('\n') && said.lines().count() == 3,
+        "{said:?}"
+    );
+}
+
 fn record(node: u8, data: &[u8]) -> [u8; RECORD] {
     let mut record = [0; RECORD];
     record[0] = data.len() as u8;
@@ -234,7 +245,7 @@ fn frames_wants_two_arguments() {
         vec![&filter; 9],
     ] {
         let output = run(frames().args(&arguments), &[]);
-        assert_only_complains(&output, "usage: frames PROGRAM RECORDS");
+        assert_only_helps(&output, "usage: frames PROGRAM RECORDS");
     }
 }
 
@@ -672,7 +683,7 @@ const PASSES_SHEET: [u8; 24] = [
 #[test]
 fn sheet_takes_no_argument() {
     let output = run(sheet().arg("program.rom"), &PASSES);
-    assert_only_complains(&output, "usage: sheet < PROGRAM > SHEET");
+    assert_only_helps(&output, "usage: sheet < PROGRAM > SHEET");
 }
 
 #[test]

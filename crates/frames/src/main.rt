@@ -66,7 +66,10 @@ fn read_and_run(program: i32, program_path: &[u8], records: i32, records_path: &
 
 fn main() {
     if os::arg_count() != 3 {
-        io::write_all(STDERR_FILENO, b"usage: frames PROGRAM RECORDS\n");
+        io::write_all(
+            STDERR_FILENO,
+            b"usage: frames PROGRAM RECORDS\nLoads the file PROGRAM and writes a line for each whole 64-byte record of the file RECORDS:\npass, drop, spent (10,000 steps used up), or refused and the number of the refusal.\n",
+        );
         return;
     }
     let mut program_path = io::buffer();

@@ -31,7 +31,10 @@ fn make_sheet(program: &[u8], sheet: &mut [u8]) -> usize
 
 fn main() {
     if os::arg_count() != 1 {
-        io::write_all(STDERR_FILENO, b"usage: sheet < PROGRAM > SHEET\n");
+        io::write_all(
+            STDERR_FILENO,
+            b"usage: sheet < PROGRAM > SHEET\nWrites four bytes for each byte of the program: mark, working depth, return depth, the byte;\nnothing if the program is not admitted.\n",
+        );
         return;
     }
     // One byte more than admission takes, so that a longer program is seen and refused.
