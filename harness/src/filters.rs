@@ -2,25 +2,11 @@
 //! place, and a jump goes only where they agree. Beside them stand programs that are near these,
 //! and random bytes.
 
+use crate::opcodes::{
+    BRK, DEO, DEO2, DUP, INC, JCI, JMI, JSI, LIT, LIT2, LITR, POP, POP2, POPR, RETURN, ROT2K,
+};
 use crate::random::Random;
 use crate::second_admission::{sizes, Depths, Sizes};
-
-const BRK: u8 = 0x00;
-const JCI: u8 = 0x20;
-const JMI: u8 = 0x40;
-const JSI: u8 = 0x60;
-const LIT: u8 = 0x80;
-const LIT2: u8 = 0xa0;
-const LITR: u8 = 0xc0;
-const POP: u8 = 0x02;
-const POP2: u8 = 0x22;
-const POPR: u8 = 0x42;
-const INC: u8 = 0x01;
-const DUP: u8 = 0x06;
-const ROT2K: u8 = 0xa5;
-const DEO: u8 = 0x17;
-const DEO2: u8 = 0x37;
-const RETURN: u8 = 0x40;
 
 const EMPTY: Depths = Depths { working: 0, ret: 0 };
 const DEEPEST: u32 = 255;

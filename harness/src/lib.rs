@@ -4,7 +4,7 @@
 //! - `second`: the second, independent machine; `pair`: both side by side;
 //! - `second_admission`: the second admission; `admissions`: the admissions side by side;
 //! - `watch`: demand 3, watched step by step;
-//! - `random`, `assembler`, `programs`, `filters`: where states and programs come from;
+//! - `random`, `assembler`, `opcodes`, `programs`, `filters`: where states and programs come from;
 //! - `peers`, `rust_core`, `rust_admission`, `workloads`, `timing`: the speed comparison.
 
 pub mod admissions;
@@ -12,6 +12,7 @@ pub mod assembler;
 pub mod calls;
 pub mod filters;
 pub mod library;
+pub mod opcodes;
 pub mod pair;
 pub mod peers;
 pub mod programs;

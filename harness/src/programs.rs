@@ -2,38 +2,17 @@
 //! operations, stores, loops, jumps and calls, which run for long.
 
 use crate::calls::PROGRAM_START;
+use crate::opcodes::{
+    DEO, DUP, JCI, JCN, JMI, JMP, JMP2, JMP2R, JSI, JSR2, KEEP, LDR, LDZ, LIT, LIT2, RETURN, SFT,
+    SHORT, STA, STH, STR, STZ, SUB,
+};
 use crate::random::Random;
-
-const JCI: u8 = 0x20;
-const JMI: u8 = 0x40;
-const JSI: u8 = 0x60;
-const LIT: u8 = 0x80;
-const LIT2: u8 = 0xa0;
-const DUP: u8 = 0x06;
-const JMP: u8 = 0x0c;
-const JCN: u8 = 0x0d;
-const JSR2: u8 = 0x2e;
-const JMP2: u8 = 0x2c;
-const JMP2R: u8 = 0x6c;
-const STH: u8 = 0x0f;
-const LDZ: u8 = 0x10;
-const STZ: u8 = 0x11;
-const LDR: u8 = 0x12;
-const STR: u8 = 0x13;
-const STA: u8 = 0x15;
-const DEO: u8 = 0x17;
-const SUB: u8 = 0x19;
-
-const SHORT: u8 = 0x20;
-const RETURN: u8 = 0x40;
-const KEEP: u8 = 0x80;
 
 /// Operations that neither jump nor store.
 const HARMLESS: [u8; 23] = [
     0x01, 0x02, 0x03, 0x04, 0x05, 0x06, 0x07, 0x08, 0x09, 0x0a, 0x0b, STH, LDZ, LDR, 0x14, 0x16,
     0x18, SUB, 0x1a, 0x1b, 0x1c, 0x1d, 0x1e,
 ];
-const SFT: u8 = 0x1f;
 /// Zero page cells of the loop counters, one for each depth of nesting.
 const COUNTERS: u8 = 0x40;
 
