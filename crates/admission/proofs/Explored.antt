@@ -1,22 +1,20 @@
 -- The worklist from its first address to its last: when it ends, the sheet is the smallest one. Assumes nothing.
 use mathlib.Core.Path.{_≡_, refl, sym, ap, _∙_}
-use mathlib.Core.Logic.{_⊎_, inl, inr}
-use mathlib.Core.List.{List, [], _∷_}
-use Prim.Native.Nat.{ℕ, zero, suc, _+_, _-_, _*_, _≤_, _<_}
+use mathlib.Core.List.{List}
+use Prim.Native.Nat.{ℕ, _+_, _-_, _≤_, _<_}
 use native.Mathlib.Decide.{ℕ-discrete}
 use native.Mathlib.Omega.{arith}
 use lib.ListN.{length, getD, set, length-set, replicate, length-replicate}
 use Rattle.model.specs.Bytes.{Every}
 use Rattle.model.specs.Machine.{start}
-use Rattle.model.specs.Admission.{Mark, byteAt, markAfter, admitMost, successors, GoesOn, Rules, Assignment, markAt, sheetRecord, sheetOf, recordAt, markIn, Smallest}
+use Rattle.model.specs.Admission.{Mark, admitMost, successors, GoesOn, markAt, sheetOf, recordAt, markIn, Smallest}
 use Rattle.model.specs.Admission.Mark.{unmarked, marked}
-use Rattle.model.specs.Exactness.{Proper}
-use Rattle.model.proofs.Reached.{count, count-most}
-use Rattle.model.proofs.Rules.{not-both, marked-at, successors-by}
+use Rattle.model.proofs.Reached.{count-most, begun, begun-first, begun-cases}
+use Rattle.model.proofs.Rules.{marked-at, successors-by}
 use Rattle.model.proofs.Sheet.{length-sheet, mark-in, record-is}
 use Rattle.admission.specs.Worklist.{Marks, Obeyed, Listed, Extended}
-use Rattle.admission.proofs.Sheets.{blank, blank-mark, sheet-set, count-set}
-use Rattle.admission.proofs.Worklist.{same-depths, marks-are, added-mark, mark-cases}
+use Rattle.admission.proofs.Sheets.{blank, sheet-set}
+use Rattle.admission.proofs.Worklist.{same-depths, place-mark, marks-are}
 
 -- the addresses before `head` obey the rules, those from there on are still to be visited
 pub record Going (program sheet queue : List ℕ) (head tail : ℕ) : Type 0 where
@@ -30,60 +28,49 @@ visits-most program sheet queue tail list = omega (arith, list .counted, list .s
 
 -- ---- the first address
 
-count-blank : (n : ℕ) → count (replicate n unmarked) ≡ 0
-unfolding count
-count-blank zero = refl
-count-blank (suc n) = count-blank n
-
-blank-at : (n at w r : ℕ) → markAt (replicate n unmarked) at ≡ marked w r → ⊥
-blank-at n at w r e = not-both (sym (sym (marked-at (replicate n unmarked) at w r e .1) ∙ blank-mark n (at - start)))
-
 module _ (program sheet queue : List ℕ) (some : 1 ≤ length program) (most : length program ≤ admitMost)
     (sheets : sheet ≡ set (set (set (blank program) 0 1) 1 0) 2 0) (queues : queue ≡ replicate admitMost 0) where
-  begun : List Mark
-  begun = set (replicate (length program) unmarked) 0 (marked 0 0)
+  first : List Mark
+  first = begun (length program)
 
-  size : length begun ≡ length program
-  unfolding begun
+  size : length first ≡ length program
+  unfolding first
   size = simp (length-set, length-replicate)
 
-  within : 0 < length (replicate (length program) unmarked)
-  within = simp length-replicate (omega arith)
-
-  wrote : sheet ≡ sheetOf begun program
-  unfolding begun
+  wrote : sheet ≡ sheetOf first program
+  unfolding first
   wrote =
       sheets ∙ sheet-set (replicate (length program) unmarked) program 0 0 0 (length-replicate (length program) unmarked) (omega arith)
 
-  in-begun : (at : ℕ) → markIn sheet at ≡ markAt begun at
-  in-begun at = ap (λ s. markIn s at) wrote ∙ mark-in begun program size at
+  in-first : (at : ℕ) → markIn sheet at ≡ markAt first at
+  in-first at = ap (λ s. markIn s at) wrote ∙ mark-in first program size at
 
   first-mark : markIn sheet start ≡ marked 0 0
-  unfolding begun
-  first-mark = in-begun start ∙ added-mark (replicate (length program) unmarked) 0 0 0 within
+  unfolding first
+  first-mark = in-first start ∙ place-mark (begun (length program)) 0 ∙ begun-first (length program) (omega arith) .0
 
-  -- it is the only one
   only : (at w r : ℕ) → markIn sheet at ≡ marked w r → (at ≡ start) × (0 ≡ w) × (0 ≡ r)
-  unfolding begun
-  only at w r e = elim (mark-cases (replicate (length program) unmarked) 0 0 0 within at w r (sym (in-begun at) ∙ e)) [
-    | inl f ↦ absurd (blank-at (length program) at w r f)
-    | inr f ↦ f
-  ]
+  unfolding first
+  only at w r e =
+      let d = marked-at (begun (length program)) at w r (sym (in-first at) ∙ e) in
+      let c = begun-cases (length program) (at - start) w r (d .1) in
+      let q = same-depths refl (c .1) in
+      (omega (arith, d .0, c .0), q .0, q .1)
 
   zeroth : start + getD queue 0 0 ≡ start
   zeroth = rw queues refl
 
   pub begins : Going program sheet queue 0 1
-  unfolding begun
+  unfolding first
   begins =
       record {
         list = record {
           most = most;
           spaces = rw queues (length-replicate {A = ℕ} admitMost 0);
-          marks = begun;
+          marks = first;
           size = size;
           written = wrote;
-          counted = sym (count-set (replicate (length program) unmarked) 0 0 0 within (blank-mark (length program) 0) ∙ ap (λ k. k + 1) (count-blank (length program)));
+          counted = sym (begun-first (length program) (omega arith) .1);
           first = first-mark;
           forced = λ at w r e marks a.
               let o = only at w r e in

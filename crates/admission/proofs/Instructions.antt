@@ -1,5 +1,5 @@
 -- Laws of one instruction: the depths after it, and where it jumps. Assumes nothing.
-use mathlib.Core.Path.{_≡_, refl, sym, ap, _∙_}
+use mathlib.Core.Path.{_≡_, refl}
 use mathlib.Core.Bool.{Bool, true, false, cond}
 use mathlib.Core.List.{List, [], _∷_}
 use Prim.Native.Nat.{ℕ, _+_, _-_, _*_, _%_, _^_, _≤_, _<_}
@@ -9,18 +9,10 @@ use lib.ListN.{getD}
 use borrow.Author.Tests.{ne-eqb, ltb-false, lt-ltb, le-ltb}
 use Rattle.model.specs.Bytes.{number}
 use Rattle.model.specs.Machine.{start}
-use Rattle.model.specs.Instruction.{keepMode, lengthOf}
+use Rattle.model.specs.Instruction.{lengthOf}
 use Rattle.model.specs.Admission.{Mark, byteAt, markAfter, successors}
 use Rattle.model.proofs.Computing.{decoding}
 use Rattle.admission.specs.Worklist.{jumpTarget, depthOr}
-
--- no more goes than is taken
-pub lowered-most : (byte taken gone : ℕ) → gone ≡ cond (keepMode byte) 0 taken → gone ≤ taken
-lowered-most byte taken gone = by (keepMode byte)
-  where
-    by : (keep : Bool) → gone ≡ cond keep 0 taken → gone ≤ taken
-    by true e = omega arith
-    by false e = omega arith
 
 -- the byte at a place of the program
 pub byte-is : (program : List ℕ) (i : ℕ) → byteAt program (start + i) ≡ getD program i 0
@@ -39,8 +31,8 @@ target-is program i two r e f =
 pub depth-short : (depth taken after : ℕ) → depth < taken → 256 ≡ depthOr depth taken after
 depth-short depth taken after h = rw (lt-ltb depth taken h)
 
-pub depth-enough : (depth taken after n : ℕ) → taken ≤ depth → n ≡ after → n ≡ depthOr depth taken after
-depth-enough depth taken after n h e = e ∙ sym (rw (le-ltb depth taken h))
+pub depth-enough : (depth taken after : ℕ) → taken ≤ depth → depthOr depth taken after ≡ after
+depth-enough depth taken after h = rw (le-ltb depth taken h)
 
 -- a depth of at most 255 is that of a stack that held the bytes taken
 pub depth-holds : (depth taken after n : ℕ) → n ≡ depthOr depth taken after → n ≤ 255 → (taken ≤ depth) × (n ≡ after)
@@ -49,10 +41,6 @@ depth-holds depth taken after n = by (ltb depth taken) refl
     by : (t : Bool) → ltb depth taken ≡ t → n ≡ cond t 256 after → n ≤ 255 → (taken ≤ depth) × (n ≡ after)
     by true h e l = absurd (omega arith)
     by false h e l = (ltb-false depth taken h, e)
-
--- and if the stack holds them, the depth is that
-pub depth-is : (depth taken after n : ℕ) → n ≡ depthOr depth taken after → taken ≤ depth → n ≡ after
-depth-is depth taken after n e h = e ∙ rw (le-ltb depth taken h)
 
 -- ---- the addresses where an instruction goes on
 

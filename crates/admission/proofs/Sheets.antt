@@ -8,7 +8,7 @@ use lib.ListN.{length, getD, set, length-set, replicate, length-replicate}
 use lib.Seq.{getD-set-same, getD-set-other, ext-getD}
 use Rattle.model.specs.Admission.{Mark, sheetRecord, recordOf, sheetOf}
 use Rattle.model.specs.Admission.Mark.{unmarked, marked}
-use Rattle.model.proofs.Reached.{count, count-most}
+use Rattle.model.proofs.Reached.{count, count-most, blank-mark}
 use Rattle.model.proofs.Rules.{not-both}
 use Rattle.model.proofs.Sheet.{length-sheet, record-byte, record-index}
 
@@ -81,11 +81,6 @@ count-room (marked v q ∷ marks) (suc i) h e = omega (arith, count-room marks i
 
 abbrev pub blank : List ℕ → List ℕ
 blank program = sheetOf (replicate (length program) unmarked) program
-
-pub blank-mark : (n i : ℕ) → getD (replicate n unmarked) i unmarked ≡ unmarked
-blank-mark zero i = refl
-blank-mark (suc n) zero = refl
-blank-mark (suc n) (suc i) = blank-mark n i
 
 pub length-blank : (program : List ℕ) → length (blank program) ≡ sheetRecord * length program
 length-blank program = length-sheet (replicate (length program) unmarked) program (length-replicate (length program) unmarked)

@@ -1,19 +1,18 @@
 -- Laws of a visit: the rules at an address that is marked, for each of the ways in which `visit` ends. Assumes nothing.
-use mathlib.Core.Path.{_≡_, refl, sym, ap, _∙_}
-use mathlib.Core.Bool.{Bool, true, false, cond, not, true≢false}
+use mathlib.Core.Path.{_≡_, sym, ap, _∙_}
+use mathlib.Core.Bool.{true, not, true≢false}
 use mathlib.Core.List.{List, [], _∷_}
-use Prim.Native.Nat.{ℕ, _+_, _-_, _*_, _≤_, _<_}
+use Prim.Native.Nat.{ℕ, _+_, _*_, _≤_, _<_}
 use native.Mathlib.Decide.{ℕ-discrete}
 use native.Mathlib.Omega.{arith}
 use denote.Enum.Declared.{tagOf}
 use types.Run.{OneOf, miss}
-use lib.Dec.{T, ltb}
 use lib.ListN.{length, getD}
 use Rattle.model.specs.Bytes.{Every}
 use Rattle.model.specs.Machine.{start}
 use Rattle.model.specs.Instruction.{working, returning, takenFrom, lengthOf}
 use Rattle.model.specs.Admission.{Mark, byteAt, allowed, depthAfter, markAfter, successors, GoesOn, Rules, Assignment, Assignable, sheetRecord, markIn}
-use Rattle.model.specs.Admission.Mark.{unmarked, marked}
+use Rattle.model.specs.Admission.Mark.{marked}
 use Rattle.model.proofs.Computing.{decoding}
 use Rattle.model.proofs.Tests.{is-true}
 use Rattle.model.proofs.Rules.{marked-within}
@@ -21,7 +20,7 @@ use Rattle.model.proofs.Exactness.{T-of}
 use Rattle.admission.specs.declared.Next.{Next}
 use Rattle.admission.proofs.Next.{the-type}
 use Rattle.admission.specs.Worklist.{jumpTarget, depthOr, Forced, Marks, Obeyed, Listed, Tested, Extended, Outcome}
-use Rattle.admission.proofs.Instructions.{byte-is, depth-holds, depth-is, after-brk, after-jmi, after-jci, after-other}
+use Rattle.admission.proofs.Instructions.{byte-is, depth-enough, depth-holds, after-brk, after-jmi, after-jci, after-other}
 use Rattle.admission.proofs.Worklist.{same-depths, marks-are, sheet-length, marked-inside, marked-depths, unextended}
 
 -- one extension after another
@@ -93,7 +92,7 @@ module _ (program sheet queue : List ℕ) (tail : ℕ) (list : Listed program sh
       → (takenFrom k (byteAt program at) ≤ d) × (depthAfter k (byteAt program at) d ≤ 255) → ⊥
   depth-fails k d n e h q =
       let t = rw (byte-is program i) at (q .0) in
-      omega (arith, depth-is d (takenFrom k byte) (depthAfter k byte d) n e t, rw (byte-is program i) at (q .1))
+      omega (arith, e ∙ depth-enough d (takenFrom k byte) (depthAfter k byte d) t, rw (byte-is program i) at (q .1))
 
   pub work-fails : (n : ℕ) → n ≡ depthOr w (takenFrom working byte) (depthAfter working byte w) → 255 < n → Assignable program → ⊥
   work-fails n e h a = depth-fails working w n e h (rules a .work, rules a .workTop)

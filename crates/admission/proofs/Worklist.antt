@@ -2,8 +2,8 @@
 use mathlib.Core.Path.{_≡_, refl, sym, ap, _∙_}
 use mathlib.Core.Logic.{_⊎_, inl, inr}
 use mathlib.Core.Bool.{Bool, true, false, cond}
-use mathlib.Core.List.{List, [], _∷_}
-use Prim.Native.Nat.{ℕ, zero, suc, _+_, _-_, _*_, _≤_, _<_}
+use mathlib.Core.List.{List}
+use Prim.Native.Nat.{ℕ, _+_, _-_, _*_, _≤_, _<_}
 use native.Mathlib.Decide.{ℕ-discrete}
 use native.Mathlib.Omega.{arith}
 use lib.ListN.{length, getD, set, length-set}
@@ -11,10 +11,9 @@ use lib.Seq.{getD-set-same, getD-set-other}
 use lib.Dec.{ltb}
 use borrow.Author.Tests.{ltb-false, le-ltb}
 use Rattle.model.specs.Machine.{start}
-use Rattle.model.specs.Admission.{Mark, admitMost, Within, Assignment, Assignable, markAt, sheetRecord, recordOf, sheetOf, markIn}
+use Rattle.model.specs.Admission.{Mark, admitMost, Assignable, markAt, sheetRecord, recordOf, sheetOf, markIn}
 use Rattle.model.specs.Admission.Mark.{unmarked, marked}
-use Rattle.model.proofs.Reached.{count}
-use Rattle.model.proofs.Rules.{not-both, marked-at, marked-within}
+use Rattle.model.proofs.Rules.{not-both, marked-within}
 use Rattle.model.proofs.Sheet.{mark-in, length-sheet}
 use Rattle.admission.specs.Worklist.{Forced, Marks, Listed, Extended}
 use Rattle.admission.proofs.Sheets.{byte-of-record, mark-unmarked, mark-marked, sheet-set, count-set, count-room}

@@ -86,7 +86,7 @@ fn forbidden(byte: u8) -> bool
 
 // What is gone of the bytes that an instruction takes: under keep nothing.
 fn lowered(byte: u8, taken: u8) -> u8
-    ensures { λ r. ⌜ r ≡ cond (keepMode byte) 0 taken ⌝ }
+    ensures { λ r. ⌜ (r ≡ cond (keepMode byte) 0 taken) × (r ≤ taken) ⌝ }
 {
     if 128 <= byte { 0 } else { taken }
 }

@@ -1,5 +1,4 @@
 -- A law of how far a buffer is filled. Assumes nothing.
-use mathlib.Core.Path.{sym}
 use mathlib.Core.List.{List}
 use Prim.Native.Nat.{ℕ, _≤_}
 use lib.ListN.{length}

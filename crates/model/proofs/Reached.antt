@@ -175,7 +175,7 @@ abbrev Agrees : List Mark → (ℕ → Mark) → Type 0
 Agrees x f = (at w r : ℕ) → markAt x at ≡ marked w r → f at ≡ marked w r
 
 -- a mark after one more was set: it was there, or it is that one
-pub set-cases : (x : List Mark) (i j : ℕ) (v : Mark) {w r : ℕ} → getD (set x i (keepMark (getD x i unmarked) v)) j unmarked ≡ marked w r
+set-cases : (x : List Mark) (i j : ℕ) (v : Mark) {w r : ℕ} → getD (set x i (keepMark (getD x i unmarked) v)) j unmarked ≡ marked w r
     → (getD x j unmarked ≡ marked w r) ⊎ ((j ≡ i) × (v ≡ marked w r))
 set-cases [] i j v e = inl e
 set-cases (unmarked ∷ x) zero zero v e = inr (refl, e)
@@ -248,23 +248,29 @@ module _ (program : List ℕ) (f : ℕ → Mark) (assigned : Assignment program 
 
 -- ---- the marks to begin with: 0100, with 0 and 0
 
-abbrev begun : ℕ → List Mark
+abbrev pub begun : ℕ → List Mark
 begun n = set (replicate n unmarked) 0 (marked 0 0)
 
-none-marked : (n i w r : ℕ) → getD (replicate n unmarked) i unmarked ≡ marked w r → ⊥
-none-marked zero i w r e = not-both e
-none-marked (suc n) zero w r e = not-both e
-none-marked (suc n) (suc i) w r e = none-marked n i w r e
+pub blank-mark : (n i : ℕ) → getD (replicate n unmarked) i unmarked ≡ unmarked
+blank-mark zero i = refl
+blank-mark (suc n) zero = refl
+blank-mark (suc n) (suc i) = blank-mark n i
 
-begun-cases : (n i w r : ℕ) → getD (begun n) i unmarked ≡ marked w r → (i ≡ 0) × (marked 0 0 ≡ marked w r)
-begun-cases zero i w r e = absurd (none-marked 0 i w r e)
-begun-cases (suc n) zero w r e = (refl, e)
-begun-cases (suc n) (suc i) w r e = absurd (none-marked n i w r e)
+blank-count : (n : ℕ) → count (replicate n unmarked) ≡ 0
+unfolding count
+blank-count zero = refl
+blank-count (suc n) = blank-count n
 
-begun-first : (n : ℕ) → 0 < n → (getD (begun n) 0 unmarked ≡ marked 0 0) × (0 < count (begun n))
+-- it is there, and it is the only one
+pub begun-first : (n : ℕ) → 0 < n → (getD (begun n) 0 unmarked ≡ marked 0 0) × (count (begun n) ≡ 1)
 unfolding count
 begun-first zero h = absurd (omega arith)
-begun-first (suc n) h = (refl, omega arith)
+begun-first (suc n) h = (refl, ap suc (blank-count n))
+
+pub begun-cases : (n i w r : ℕ) → getD (begun n) i unmarked ≡ marked w r → (i ≡ 0) × (marked 0 0 ≡ marked w r)
+begun-cases zero i w r e = not-both e
+begun-cases (suc n) zero w r e = (refl, e)
+begun-cases (suc n) (suc i) w r e = not-both (sym (blank-mark n i) ∙ e)
 
 length-reached : (program : List ℕ) → length (reached program) ≡ length program
 unfolding reached

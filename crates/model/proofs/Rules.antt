@@ -40,7 +40,7 @@ marked-at marks at w r e = by (ltb at start) refl
     by true h = not-both (rw h at e)
     by false h = (ltb-false at start h, rw h at e)
 
-pub marked-inside : (marks : List Mark) (i w r : ℕ) → getD marks i unmarked ≡ marked w r → i < length marks
+marked-inside : (marks : List Mark) (i w r : ℕ) → getD marks i unmarked ≡ marked w r → i < length marks
 marked-inside [] i w r e = not-both e
 marked-inside (x ∷ marks) zero w r e = omega arith
 marked-inside (x ∷ marks) (suc i) w r e = omega (arith, marked-inside marks i w r e)

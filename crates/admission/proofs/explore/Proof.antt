@@ -1,10 +1,9 @@
 -- `admission::explore` meets its contract. The loop's invariant is `Going`: the first `head` addresses of the queue obey the
 -- rules. Each turn visits one more, and there are no more of them than the program has bytes. Assumes nothing.
-use mathlib.Core.Path.{_≡_, refl, sym, ap, _∙_}
+use mathlib.Core.Path.{refl, sym, _∙_}
 use Prim.Native.Nat.{_-_}
 use native.Mathlib.Omega.{arith}
 use lib.ListN.{length}
-use Rattle.admission.proofs.Sheets.{length-blank}
 use Rattle.admission.proofs.Worklist.{sheet-length}
 use Rattle.admission.proofs.Visits as visits
 use Rattle.admission.proofs.Explored as explored

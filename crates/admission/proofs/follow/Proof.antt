@@ -1,5 +1,4 @@
 -- `admission::follow` meets its contract. Assumes nothing.
-use mathlib.Core.Path.{_≡_}
 use native.Mathlib.Omega.{arith}
 use Rattle.admission.proofs.Visits as visits
 use borrow.Author.Needs.{needs}

@@ -3,7 +3,6 @@ use mathlib.Core.Path.{sym}
 use mathlib.Core.Bool.{Bool·not-not}
 use borrow.Author.Tests.{ne-eqb}
 use Rattle.model.specs.Admission.{allowed}
-use borrow.Author.Needs.{needs}
 use Rattle.admission.proofs.forbidden.Statement.{statement}
 use Rattle.admission.proofs.forbidden.Tie as tie
 

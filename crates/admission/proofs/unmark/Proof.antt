@@ -6,7 +6,6 @@ use native.Mathlib.Omega.{arith}
 use lib.ListN.{length, length-set}
 use Rattle.model.specs.Admission.{sheetRecord}
 use Rattle.admission.proofs.Sheets.{blank, Same, next-record, all-records}
-use borrow.Author.Needs.{needs}
 use Rattle.admission.proofs.unmark.Statement.{statement}
 use Rattle.admission.proofs.unmark.Tie as tie
 
