@@ -5,6 +5,7 @@ use Rattle.model.specs.Machine.{registers}
 use Rattle.model.specs.Run.{Answer, Reply}
 use Rattle.model.specs.Run.Answer.{Refused, Loaded, WentOn, Broke, Spent, Ignored, Admitted}
 use Rattle.model.specs.Calls.{numberOf, AdmitResult}
+use Rattle.model.specs.declared.Machine.{Machine}
 use Rattle.capi.specs.declared.Reply as C
 
 pub record Left : Type 0 where
@@ -26,6 +27,13 @@ answerOf Broke = 3
 answerOf Spent = 4
 answerOf Ignored = 5
 answerOf Admitted = 6
+
+-- the struct of a refusal, and of an answer to what was done
+abbrev pub refusal : ℕ → Machine → C.Reply
+refusal number m = record { machine = m; steps = 0; number = number; answer = 0; verdict = 0 }
+
+abbrev pub doing : ℕ → Machine → ℕ → ℕ → C.Reply
+doing answer m steps verdict = record { machine = m; steps = steps; number = 0; answer = answer; verdict = verdict }
 
 -- the reply of a call, as the static library gives it
 abbrev pub exported : Reply → Left

@@ -12,7 +12,7 @@ ghost use Prim.Native.Nat.{ℕ};
 ghost use Rattle.model.specs.Machine.{state};
 ghost use Rattle.model.specs.Calls.{loadCall, stepCall, runCall, eventCall, frameCall, admitCall};
 ghost use Rattle.model.specs.Replies.{ofLoad, ofStep, ofRun, ofEvent, ofFrame, ofAdmit};
-ghost use Rattle.capi.specs.Exported.{left, exported, admitLeft, exportedAdmit};
+ghost use Rattle.capi.specs.Exported.{refusal, doing, left, exported, admitLeft, exportedAdmit};
 
 // The answers, as numbers.
 pub const REFUSED: u8 = 0;
@@ -40,24 +40,36 @@ pub struct Reply {
 
 // ---- replies
 
+fn refused(number: u8, machine: Machine) -> Reply
+    ensures { λ r. ⌜ r ≡ refusal number machine ⌝ }
+{
+    Reply {
+        machine,
+        steps: 0,
+        number,
+        answer: REFUSED,
+        verdict: 0,
+    }
+}
+
+fn done(answer: u8, machine: Machine, steps: u32, verdict: u8) -> Reply
+    ensures { λ r. ⌜ r ≡ doing answer machine steps verdict ⌝ }
+{
+    Reply {
+        machine,
+        steps,
+        number: 0,
+        answer,
+        verdict,
+    }
+}
+
 fn of_load(reply: LoadReply) -> Reply
     ensures { λ r. ⌜ ((p q w t : List ℕ) → left r p q w t ≡ exported (ofLoad (state p q w t) reply)) ⌝ }
 {
     match reply {
-        LoadReply::Refused(n, m) => Reply {
-            machine: m,
-            steps: 0,
-            number: n,
-            answer: REFUSED,
-            verdict: 0,
-        },
-        LoadReply::Loaded(m) => Reply {
-            machine: m,
-            steps: 0,
-            number: 0,
-            answer: LOADED,
-            verdict: 0,
-        },
+        LoadReply::Refused(n, m) => refused(n, m),
+        LoadReply::Loaded(m) => done(LOADED, m, 0, 0),
     }
 }
 
@@ -65,27 +77,9 @@ fn of_step(reply: StepReply) -> Reply
     ensures { λ r. ⌜ ((p q w t : List ℕ) → left r p q w t ≡ exported (ofStep (state p q w t) reply)) ⌝ }
 {
     match reply {
-        StepReply::Refused(n, m) => Reply {
-            machine: m,
-            steps: 0,
-            number: n,
-            answer: REFUSED,
-            verdict: 0,
-        },
-        StepReply::WentOn(m) => Reply {
-            machine: m,
-            steps: 1,
-            number: 0,
-            answer: WENT_ON,
-            verdict: 0,
-        },
-        StepReply::Broke(m) => Reply {
-            machine: m,
-            steps: 1,
-            number: 0,
-            answer: BROKE,
-            verdict: 0,
-        },
+        StepReply::Refused(n, m) => refused(n, m),
+        StepReply::WentOn(m) => done(WENT_ON, m, 1, 0),
+        StepReply::Broke(m) => done(BROKE, m, 1, 0),
     }
 }
 
@@ -93,27 +87,9 @@ fn of_run(reply: RunReply) -> Reply
     ensures { λ r. ⌜ ((p q w t : List ℕ) → left r p q w t ≡ exported (ofRun (state p q w t) reply)) ⌝ }
 {
     match reply {
-        RunReply::Refused(n, m) => Reply {
-            machine: m,
-            steps: 0,
-            number: n,
-            answer: REFUSED,
-            verdict: 0,
-        },
-        RunReply::Broke(m, steps) => Reply {
-            machine: m,
-            steps,
-            number: 0,
-            answer: BROKE,
-            verdict: 0,
-        },
-        RunReply::Spent(m, steps) => Reply {
-            machine: m,
-            steps,
-            number: 0,
-            answer: SPENT,
-            verdict: 0,
-        },
+        RunReply::Refused(n, m) => refused(n, m),
+        RunReply::Broke(m, steps) => done(BROKE, m, steps, 0),
+        RunReply::Spent(m, steps) => done(SPENT, m, steps, 0),
     }
 }
 
@@ -121,34 +97,10 @@ fn of_event(reply: EventReply) -> Reply
     ensures { λ r. ⌜ ((p q w t : List ℕ) → left r p q w t ≡ exported (ofEvent (state p q w t) reply)) ⌝ }
 {
     match reply {
-        EventReply::Refused(n, m) => Reply {
-            machine: m,
-            steps: 0,
-            number: n,
-            answer: REFUSED,
-            verdict: 0,
-        },
-        EventReply::Ignored(m) => Reply {
-            machine: m,
-            steps: 0,
-            number: 0,
-            answer: IGNORED,
-            verdict: 0,
-        },
-        EventReply::Broke(m, steps) => Reply {
-            machine: m,
-            steps,
-            number: 0,
-            answer: BROKE,
-            verdict: 0,
-        },
-        EventReply::Spent(m, steps) => Reply {
-            machine: m,
-            steps,
-            number: 0,
-            answer: SPENT,
-            verdict: 0,
-        },
+        EventReply::Refused(n, m) => refused(n, m),
+        EventReply::Ignored(m) => done(IGNORED, m, 0, 0),
+        EventReply::Broke(m, steps) => done(BROKE, m, steps, 0),
+        EventReply::Spent(m, steps) => done(SPENT, m, steps, 0),
     }
 }
 
@@ -156,27 +108,9 @@ fn of_frame(reply: FrameReply) -> Reply
     ensures { λ r. ⌜ ((p q w t : List ℕ) → left r p q w t ≡ exported (ofFrame (state p q w t) reply)) ⌝ }
 {
     match reply {
-        FrameReply::Refused(n, m) => Reply {
-            machine: m,
-            steps: 0,
-            number: n,
-            answer: REFUSED,
-            verdict: 0,
-        },
-        FrameReply::Broke(m, steps, verdict) => Reply {
-            machine: m,
-            steps,
-            number: 0,
-            answer: BROKE,
-            verdict,
-        },
-        FrameReply::Spent(m, steps) => Reply {
-            machine: m,
-            steps,
-            number: 0,
-            answer: SPENT,
-            verdict: 0,
-        },
+        FrameReply::Refused(n, m) => refused(n, m),
+        FrameReply::Broke(m, steps, verdict) => done(BROKE, m, steps, verdict),
+        FrameReply::Spent(m, steps) => done(SPENT, m, steps, 0),
     }
 }
 

@@ -4,7 +4,7 @@ use mathlib.Core.Bool.{Bool, true, false, cond}
 use mathlib.Core.List.{List, []}
 use Prim.Native.Nat.{ℕ, zero, suc, _+_, _/_, _%_, _≤_, _<_}
 use native.Mathlib.Omega.{arith}
-use lib.Dec.{eqb}
+use lib.Dec.{T, eqb, ltb, ltb→lt}
 use borrow.Author.Tests.{eq-eqb, ne-eqb}
 use Rattle.model.specs.Bytes.{word, number, readRing, writeRing}
 use Rattle.model.specs.Machine.{memorySize, Stack, stack, State, pushed, popped, lowered}
@@ -19,48 +19,45 @@ use Rattle.operations.specs.After.{after, executed, byteOf}
 abbrev pub left : List ℕ → List ℕ → Stack → Stack → ℕ → State
 left memory devices work ret pc = record { memory = memory; devices = devices; work = work; ret = ret; pc = pc }
 
--- the operation touches its main stack alone, and needs nothing else
-pub data Pure : Op → Type 0 where
-  inc : Pure INC
-  pop : Pure POP
-  nip : Pure NIP
-  swp : Pure SWP
-  rot : Pure ROT
-  dup : Pure DUP
-  ovr : Pure OVR
-  comparing : {o : Comparison} → Pure (compare o)
-  computing : {o : Arithmetic} → Pure (compute o)
-  sft : Pure SFT
+-- The operation touches its main stack alone, and uses this memory, this device page and this next address: those of the
+-- state, or none
+pub data Pure (s : State) (n : ℕ) : List ℕ → List ℕ → ℕ → Op → Type 0 where
+  inc : Pure s n [] [] 0 INC
+  pop : Pure s n [] [] 0 POP
+  nip : Pure s n [] [] 0 NIP
+  swp : Pure s n [] [] 0 SWP
+  rot : Pure s n [] [] 0 ROT
+  dup : Pure s n [] [] 0 DUP
+  ovr : Pure s n [] [] 0 OVR
+  comparing : {o : Comparison} → Pure s n [] [] 0 (compare o)
+  computing : {o : Arithmetic} → Pure s n [] [] 0 (compute o)
+  sft : Pure s n [] [] 0 SFT
+  ldz : Pure s n (s .memory) [] 0 LDZ
+  ldr : Pure s n (s .memory) [] n LDR
+  lda : Pure s n (s .memory) [] 0 LDA
+  dei : Pure s n [] (s .devices) 0 DEI
+
+-- The operation stores in memory, takes so many bytes besides the value, and uses this next address
+pub data Stores (n : ℕ) : ℕ → ℕ → Op → Type 0 where
+  stz : Stores n 1 0 STZ
+  str : Stores n 1 n STR
+  sta : Stores n 2 0 STA
 
 -- opens the definition of an operation on the state
 unfoldable opened : Unit {0}
 unfolding applied shape written otherAfter words pushed word writeRing mainAfter effectOn effect size
 opened = tt
 
--- the pointer after a number alone is taken, with a byte, with an address, and over a byte
-alone : (w k : Bool) (p : ℕ) {q : ℕ} → q ≡ lowered k (cond w 2 1) p → q ≡ lowered k (size w + 0) p
+-- the pointer after bytes are taken, as many as hang on the width
+by-size : (f : ℕ → ℕ) (w k : Bool) (p : ℕ) {q : ℕ} → q ≡ lowered k (cond w (f 2) (f 1)) p → q ≡ lowered k (f (size w)) p
 unfolding size
-alone true k p h = h
-alone false k p h = h
-
-with-byte : (w k : Bool) (p : ℕ) {q : ℕ} → q ≡ lowered k (cond w 3 2) p → q ≡ lowered k (size w + 1) p
-unfolding size
-with-byte true k p h = h
-with-byte false k p h = h
-
-with-address : (w k : Bool) (p : ℕ) {q : ℕ} → q ≡ lowered k (cond w 4 3) p → q ≡ lowered k (size w + 2) p
-unfolding size
-with-address true k p h = h
-with-address false k p h = h
-
-over-byte : (w k : Bool) (p : ℕ) {q : ℕ} → q ≡ lowered k (cond w 3 2) p → q ≡ lowered k (1 + (size w + 0)) p
-unfolding size
-over-byte true k p h = h
-over-byte false k p h = h
+by-size f true k p h = h
+by-size f false k p h = h
 
 -- n is the address after the instruction byte, q the pointer of the main stack afterwards
 module _ (w k : Bool) (s : State) {n : ℕ} (hn : n ≡ (s .pc + 1) % 65536) where
-  pub pure-is : {o : Op} {t : Stack} → Pure o → t ≡ after [] [] 0 o w k (s .work) → left (s .memory) (s .devices) t (s .ret) n ≡ applied o w k s
+  pub pure-is : {m d : List ℕ} {a : ℕ} {o : Op} {t : Stack} → Pure s n m d a o → t ≡ after m d a o w k (s .work)
+      → left (s .memory) (s .devices) t (s .ret) n ≡ applied o w k s
   unfolding opened
   pure-is inc g = rw (g, hn)
   pure-is pop g = rw (g, hn)
@@ -72,68 +69,46 @@ module _ (w k : Bool) (s : State) {n : ℕ} (hn : n ≡ (s .pc + 1) % 65536) whe
   pure-is comparing g = rw (g, hn)
   pure-is computing g = rw (g, hn)
   pure-is sft g = rw (g, hn)
+  pure-is ldz g = rw (g, hn)
+  pure-is ldr g = rw (g, hn)
+  pure-is lda g = rw (g, hn)
+  pure-is dei g = rw (g, hn)
 
-  pub ldz-is : {t : Stack} → t ≡ after (s .memory) [] 0 LDZ w k (s .work) → left (s .memory) (s .devices) t (s .ret) n ≡ applied LDZ w k s
+  pub store-is : {b a : ℕ} {o : Op} {m : List ℕ} {q : ℕ} → Stores n b a o
+      → m ≡ written (effectOn [] [] a 0 o w (s .work)) (size w) (s .memory) → q ≡ lowered k (cond w (2 + b) (1 + b)) (s .work .pointer)
+      → left m (s .devices) (stack (s .work .bytes) q) (s .ret) n ≡ applied o w k s
   unfolding opened
-  ldz-is g = rw (g, hn)
-
-  pub lda-is : {t : Stack} → t ≡ after (s .memory) [] 0 LDA w k (s .work) → left (s .memory) (s .devices) t (s .ret) n ≡ applied LDA w k s
-  unfolding opened
-  lda-is g = rw (g, hn)
-
-  pub ldr-is : {t : Stack} → t ≡ after (s .memory) [] n LDR w k (s .work) → left (s .memory) (s .devices) t (s .ret) n ≡ applied LDR w k s
-  unfolding opened
-  ldr-is g = rw (g, hn)
-
-  pub dei-is : {t : Stack} → t ≡ after [] (s .devices) 0 DEI w k (s .work) → left (s .memory) (s .devices) t (s .ret) n ≡ applied DEI w k s
-  unfolding opened
-  dei-is g = rw (g, hn)
-
-  pub stz-is : {m : List ℕ} {q : ℕ} → m ≡ written (effectOn [] [] 0 0 STZ w (s .work)) (size w) (s .memory)
-      → q ≡ lowered k (cond w 3 2) (s .work .pointer)
-      → left m (s .devices) (stack (s .work .bytes) q) (s .ret) n ≡ applied STZ w k s
-  unfolding opened
-  stz-is g h = rw (g, with-byte w k (s .work .pointer) h, hn)
-
-  pub str-is : {m : List ℕ} {q : ℕ} → m ≡ written (effectOn [] [] n 0 STR w (s .work)) (size w) (s .memory)
-      → q ≡ lowered k (cond w 3 2) (s .work .pointer)
-      → left m (s .devices) (stack (s .work .bytes) q) (s .ret) n ≡ applied STR w k s
-  unfolding opened
-  str-is g h = rw (g, with-byte w k (s .work .pointer) h, hn)
-
-  pub sta-is : {m : List ℕ} {q : ℕ} → m ≡ written (effectOn [] [] 0 0 STA w (s .work)) (size w) (s .memory)
-      → q ≡ lowered k (cond w 4 3) (s .work .pointer)
-      → left m (s .devices) (stack (s .work .bytes) q) (s .ret) n ≡ applied STA w k s
-  unfolding opened
-  sta-is g h = rw (g, with-address w k (s .work .pointer) h, hn)
+  store-is stz g h = rw (g, by-size (λ i. i + 1) w k (s .work .pointer) h, hn)
+  store-is str g h = rw (g, by-size (λ i. i + 1) w k (s .work .pointer) h, hn)
+  store-is sta g h = rw (g, by-size (λ i. i + 2) w k (s .work .pointer) h, hn)
 
   pub deo-is : {d : List ℕ} {q : ℕ} → d ≡ written (effectOn [] [] 0 0 DEO w (s .work)) (size w) (s .devices)
       → q ≡ lowered k (cond w 3 2) (s .work .pointer)
       → left (s .memory) d (stack (s .work .bytes) q) (s .ret) n ≡ applied DEO w k s
   unfolding opened
-  deo-is g h = rw (g, with-byte w k (s .work .pointer) h, hn)
+  deo-is g h = rw (g, by-size (λ i. i + 1) w k (s .work .pointer) h, hn)
 
   pub jmp-is : {r q : ℕ} → r ≡ effectOn [] [] n 0 JMP w (s .work) .target → q ≡ lowered k (cond w 2 1) (s .work .pointer)
       → left (s .memory) (s .devices) (stack (s .work .bytes) q) (s .ret) r ≡ applied JMP w k s
   unfolding opened
-  jmp-is g h = rw (g, alone w k (s .work .pointer) h, hn)
+  jmp-is g h = rw (g, by-size (λ i. i + 0) w k (s .work .pointer) h, hn)
 
   pub jcn-is : {r q : ℕ} → r ≡ effectOn [] [] n 0 JCN w (s .work) .target → q ≡ lowered k (cond w 3 2) (s .work .pointer)
       → left (s .memory) (s .devices) (stack (s .work .bytes) q) (s .ret) r ≡ applied JCN w k s
   unfolding opened
-  jcn-is g h = rw (g, over-byte w k (s .work .pointer) h, hn)
+  jcn-is g h = rw (g, by-size (λ i. 1 + (i + 0)) w k (s .work .pointer) h, hn)
 
   pub jsr-is : {r q : ℕ} {u : Stack} → r ≡ effectOn [] [] n 0 JMP w (s .work) .target → u ≡ pushed (word (size true) n) (s .ret)
       → q ≡ lowered k (cond w 2 1) (s .work .pointer)
       → left (s .memory) (s .devices) (stack (s .work .bytes) q) u r ≡ applied JSR w k s
   unfolding opened
-  jsr-is g f h = rw (g, f, alone w k (s .work .pointer) h, hn)
+  jsr-is g f h = rw (g, f, by-size (λ i. i + 0) w k (s .work .pointer) h, hn)
 
   pub sth-is : {q : ℕ} {u : Stack} → u ≡ otherAfter STH w (effectOn [] [] 0 0 STH w (s .work)) (s .ret)
       → q ≡ lowered k (cond w 2 1) (s .work .pointer)
       → left (s .memory) (s .devices) (stack (s .work .bytes) q) u n ≡ applied STH w k s
   unfolding opened
-  sth-is f h = rw (f, alone w k (s .work .pointer) h, hn)
+  sth-is f h = rw (f, by-size (λ i. i + 0) w k (s .work .pointer) h, hn)
 
 -- ---- by the low seven bits and keep
 
@@ -154,10 +129,12 @@ bits-are key true = (omega arith, omega arith, omega arith)
 bits-are key false = (omega arith, omega arith, omega arith)
 
 -- the arm for key N
-pub arm : (N : ℕ) (k : Bool) (s : State) → 0 < N % 32 → N < 128 → {key : ℕ} {t : State} → key ≡ N
+pub arm : (N : ℕ) (k : Bool) (s : State) → T (ltb 0 (N % 32)) → T (ltb N 128) → {key : ℕ} {t : State} → key ≡ N
     → t ≡ operated (opAt (N % 32) 0) (eqb (N / 32 % 2) 1) (eqb (N / 64 % 2) 1) k s → reply WentOn 1 0 t ≡ executed (byteOf key k) s
 unfolding execute opOf wide returnMode
-arm N k s h l e g =
+arm N k s t u e g =
+    let h = ltb→lt 0 (N % 32) t in
+    let l = ltb→lt N 128 u in
     let b = bits-are N k in
     let some : byteOf N k ≡ 0 → ⊥ = λ z. let low = b .0 in omega arith in
     rw (e, ne-eqb _ _ some, keep-is N k l, b .0, b .1, b .2, ← op-high (N % 32) (byteOf N k / 32) h, ← g)
@@ -205,19 +182,15 @@ module _ (s : State) {key : ℕ} {k : Bool} where
   unfolding decoded
   jsi-is e f hr hn ht = rw (e, f, hr, ht, hn)
 
-pub lit-work : (w : Bool) (s : State) {key : ℕ} {k : Bool} {n : ℕ} {t : Stack} → key ≡ cond w 32 0 → k ≡ true → n ≡ (s .pc + cond w 3 2) % 65536
-    → t ≡ pushed (word (size w) (inlined s w)) (s .work)
-    → reply WentOn 1 0 (left (s .memory) (s .devices) t (s .ret) n) ≡ executed (byteOf key k) s
+-- LIT, in both widths and on either stack
+pub lit-is : (w r : Bool) (s : State) {key : ℕ} {k : Bool} {n : ℕ} {t : Stack} → key ≡ cond r 64 0 + cond w 32 0 → k ≡ true
+    → n ≡ (s .pc + cond w 3 2) % 65536 → t ≡ pushed (word (size w) (inlined s w)) (exchanged r s .work)
+    → reply WentOn 1 0 (exchanged r (left (s .memory) (s .devices) t (exchanged r s .ret) n)) ≡ executed (byteOf key k) s
 unfolding decoded
-lit-work true s e f hn ht = rw (e, f, hn, ht)
-lit-work false s e f hn ht = rw (e, f, hn, ht)
-
-pub lit-return : (w : Bool) (s : State) {key : ℕ} {k : Bool} {n : ℕ} {t : Stack} → key ≡ cond w 96 64 → k ≡ true → n ≡ (s .pc + cond w 3 2) % 65536
-    → t ≡ pushed (word (size w) (inlined s w)) (s .ret)
-    → reply WentOn 1 0 (left (s .memory) (s .devices) (s .work) t n) ≡ executed (byteOf key k) s
-unfolding decoded
-lit-return true s e f hn ht = rw (e, f, hn, ht)
-lit-return false s e f hn ht = rw (e, f, hn, ht)
+lit-is true true s e f hn ht = rw (e, f, hn, ht)
+lit-is true false s e f hn ht = rw (e, f, hn, ht)
+lit-is false true s e f hn ht = rw (e, f, hn, ht)
+lit-is false false s e f hn ht = rw (e, f, hn, ht)
 
 -- ---- the last arm of a match from 0 on
 

@@ -5,9 +5,6 @@ use Rattle.model.specs.Step.{address}
 use Rattle.alu.proofs.address.Statement.{statement}
 use Rattle.alu.proofs.address.Tie as tie
 
-relative-requires : tie.Need-relative-requires
-relative-requires c κs = search needs
-
 returns : tie.Need-returns
 unfolding address size
 returns c = rw (c .if1 .taken)
@@ -17,4 +14,4 @@ unfolding address size
 returns-2 c = rw (c .before .if1 .left) (c .relative .ensures)
 
 pub address-spec : {M : Type 1} → statement M
-address-spec = tie.close (tie.spec relative-requires returns returns-2)
+address-spec = tie.close (tie.spec (λ c κs. search needs) returns returns-2)

@@ -8,18 +8,6 @@ use Rattle.alu.proofs.Laws as laws
 use Rattle.alu.proofs.computed.Statement.{statement}
 use Rattle.alu.proofs.computed.Tie as tie
 
-wrapping-add-u16-requires : tie.Need-wrapping-add-u16-requires
-wrapping-add-u16-requires c κs = search needs
-
-wrapping-sub-u16-requires : tie.Need-wrapping-sub-u16-requires
-wrapping-sub-u16-requires c κs = search needs
-
-product-requires : tie.Need-product-requires
-product-requires c κs = search needs
-
-quotient-requires : tie.Need-quotient-requires
-quotient-requires c κs = search needs
-
 returns : tie.Need-returns
 unfolding computed
 returns c = rw (c .before .match .keys1) (omega arith)
@@ -52,10 +40,10 @@ pub computed-spec : {M : Type 1} → statement M
 computed-spec =
     tie.close
     (tie.spec
-    wrapping-add-u16-requires
-    wrapping-sub-u16-requires
-    product-requires
-    quotient-requires
+    (λ c κs. search needs)
+    (λ c κs. search needs)
+    (λ c κs. search needs)
+    (λ c κs. search needs)
     returns
     returns-2
     returns-3

@@ -5,9 +5,6 @@ use Rattle.model.specs.Step.{computed}
 use Rattle.alu.proofs.quotient.Statement.{statement}
 use Rattle.alu.proofs.quotient.Tie as tie
 
-div-result : tie.Need-div-result
-div-result c = search needs
-
 returns : tie.Need-returns
 unfolding computed
 returns c = simp (eq-eqb _ _ (c .if1 .taken))
@@ -17,4 +14,4 @@ unfolding computed
 returns-2 c = simp (ne-eqb _ _ (c .if1 .left))
 
 pub quotient-spec : {M : Type 1} → statement M
-quotient-spec = tie.close (tie.spec div-result returns returns-2)
+quotient-spec = tie.close (tie.spec (λ c. search needs) returns returns-2)

@@ -5,9 +5,6 @@ use Rattle.buffers.proofs.Refusals as laws
 use Rattle.buffers.proofs.event_refusal.Statement.{statement}
 use Rattle.buffers.proofs.event_refusal.Tie as tie
 
-wrong-length-requires : tie.Need-wrong-length-requires
-wrong-length-requires c κs = search needs
-
 returns : tie.Need-returns
 unfolding eventRows
 returns c m = laws.by-buffers _ _ (c .before .wrong-length .ensures m) _ (c .if1 .taken)
@@ -19,4 +16,4 @@ returns-3 : tie.Need-returns-3
 returns-3 c m = laws.device-right _ _ (c .before .before .wrong-length .ensures m) (c .before .if1 .left) _ (c .if2 .left)
 
 pub event-refusal-spec : {M : Type 1} → statement M
-event-refusal-spec = tie.close (tie.spec wrong-length-requires returns returns-2 returns-3)
+event-refusal-spec = tie.close (tie.spec (λ c κs. search needs) returns returns-2 returns-3)

@@ -4,21 +4,6 @@ use borrow.Author.Needs.{needs}
 use Rattle.buffers.proofs.frame_memory.Statement.{statement}
 use Rattle.buffers.proofs.frame_memory.Tie as tie
 
-sub-place : tie.Need-sub-place
-sub-place c = search needs
-
-part-place-start : tie.Need-part-place-start
-part-place-start c = search needs
-
-part-place-end : tie.Need-part-place-end
-part-place-end c = search needs
-
-place-requires : tie.Need-place-requires
-place-requires c κs = search needs
-
-same-length : tie.Need-same-length
-same-length c = search needs
-
 returns : tie.Need-returns
 returns c =
     parts.placed-from 128 (c .before .before .before .before .before .before .args .memory .now) (c .before .before .before .before .before .before .args .frame .now) _ (c .before .before .place .ensures)
@@ -26,4 +11,4 @@ returns c =
 pub frame-memory-spec : {M : Type 1} → statement M
 frame-memory-spec =
     tie.close
-    (tie.spec sub-place part-place-start part-place-end place-requires same-length returns)
+    (tie.spec (λ c. search needs) (λ c. search needs) (λ c. search needs) (λ c κs. search needs) (λ c. search needs) returns)

@@ -6,18 +6,12 @@ use Rattle.buffers.proofs.Refusals as laws
 use Rattle.buffers.proofs.frame_refusal.Statement.{statement}
 use Rattle.buffers.proofs.frame_refusal.Tie as tie
 
-wrong-length-requires : tie.Need-wrong-length-requires
-wrong-length-requires c κs = search needs
-
 returns : tie.Need-returns
 unfolding frameRows
 returns c m = laws.by-buffers _ _ (c .before .wrong-length .ensures m) _ (c .if1 .taken)
 
 returns-2 : tie.Need-returns-2
 returns-2 c m = laws.frame-length _ _ (c .before .before .wrong-length .ensures m) (c .before .if1 .left) _ (c .if2 .taken)
-
-well-formed-requires : tie.Need-well-formed-requires
-well-formed-requires c κs = search needs
 
 returns-3 : tie.Need-returns-3
 returns-3 c m =
@@ -32,4 +26,4 @@ returns-4 c m =
 pub frame-refusal-spec : {M : Type 1} → statement M
 frame-refusal-spec =
     tie.close
-    (tie.spec wrong-length-requires returns returns-2 well-formed-requires returns-3 returns-4)
+    (tie.spec (λ c κs. search needs) returns returns-2 (λ c κs. search needs) returns-3 returns-4)

@@ -5,9 +5,6 @@ use Rattle.buffers.proofs.Refusals as laws
 use Rattle.buffers.proofs.load_refusal.Statement.{statement}
 use Rattle.buffers.proofs.load_refusal.Tie as tie
 
-wrong-length-requires : tie.Need-wrong-length-requires
-wrong-length-requires c κs = search needs
-
 returns : tie.Need-returns
 unfolding loadRows
 returns c m = laws.by-buffers _ _ (c .before .wrong-length .ensures m) _ (c .if1 .taken)
@@ -25,4 +22,4 @@ returns-4 c m =
 
 pub load-refusal-spec : {M : Type 1} → statement M
 load-refusal-spec =
-    tie.close (tie.spec wrong-length-requires returns returns-2 returns-3 returns-4)
+    tie.close (tie.spec (λ c κs. search needs) returns returns-2 returns-3 returns-4)

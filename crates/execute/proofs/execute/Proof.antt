@@ -538,7 +538,7 @@ same-length-2 : tie.Need-same-length-2
 same-length-2 c = search needs
 
 returns : tie.Need-returns
-returns c = laws.lit-work false _ (c .before .before .before .before .before .before .before .match .keys1) (c .before .before .before .before .before .before .if1 .taken) (c .before .before .before .before .before .wrapping-add-u162 .ensures) (c .before .before .lit .ensures)
+returns c = laws.lit-is false false _ (c .before .before .before .before .before .before .before .match .keys1) (c .before .before .before .before .before .before .if1 .taken) (c .before .before .before .before .before .wrapping-add-u162 .ensures) (c .before .before .lit .ensures)
 
 returns-2 : tie.Need-returns-2
 returns-2 c = laws.brk-is _ (c .before .match .keys1) (c .if1 .left) (c .before .before .wrapping-add-u16 .ensures)
@@ -547,79 +547,79 @@ same-length-3 : tie.Need-same-length-3
 same-length-3 c = search needs
 
 returns-3 : tie.Need-returns-3
-returns-3 c = laws.arm 1 _ _ (omega arith) (omega arith) (c .before .before .before .before .match .keys2) (laws.on-work _ _ _ _ (laws.pure-is _ _ _ (c .before .before .before .before .before .wrapping-add-u16 .ensures) laws.Pure.inc (c .before .before .inc .ensures)))
+returns-3 c = laws.arm 1 _ _ tt tt (c .before .before .before .before .match .keys2) (laws.on-work _ _ _ _ (laws.pure-is _ _ _ (c .before .before .before .before .before .wrapping-add-u16 .ensures) laws.Pure.inc (c .before .before .inc .ensures)))
 
 same-length-4 : tie.Need-same-length-4
 same-length-4 c = search needs
 
 returns-4 : tie.Need-returns-4
-returns-4 c = laws.arm 2 _ _ (omega arith) (omega arith) (c .before .before .match .keys3) (laws.on-work _ _ _ _ (laws.pure-is _ _ _ (c .before .before .before .wrapping-add-u16 .ensures) laws.Pure.pop (c .pop .ensures)))
+returns-4 c = laws.arm 2 _ _ tt tt (c .before .before .match .keys3) (laws.on-work _ _ _ _ (laws.pure-is _ _ _ (c .before .before .before .wrapping-add-u16 .ensures) laws.Pure.pop (c .pop .ensures)))
 
 same-length-5 : tie.Need-same-length-5
 same-length-5 c = search needs
 
 returns-5 : tie.Need-returns-5
-returns-5 c = laws.arm 3 _ _ (omega arith) (omega arith) (c .before .before .before .before .match .keys4) (laws.on-work _ _ _ _ (laws.pure-is _ _ _ (c .before .before .before .before .before .wrapping-add-u16 .ensures) laws.Pure.nip (c .before .before .nip .ensures)))
+returns-5 c = laws.arm 3 _ _ tt tt (c .before .before .before .before .match .keys4) (laws.on-work _ _ _ _ (laws.pure-is _ _ _ (c .before .before .before .before .before .wrapping-add-u16 .ensures) laws.Pure.nip (c .before .before .nip .ensures)))
 
 same-length-6 : tie.Need-same-length-6
 same-length-6 c = search needs
 
 returns-6 : tie.Need-returns-6
-returns-6 c = laws.arm 4 _ _ (omega arith) (omega arith) (c .before .before .before .before .match .keys5) (laws.on-work _ _ _ _ (laws.pure-is _ _ _ (c .before .before .before .before .before .wrapping-add-u16 .ensures) laws.Pure.swp (c .before .before .swp .ensures)))
+returns-6 c = laws.arm 4 _ _ tt tt (c .before .before .before .before .match .keys5) (laws.on-work _ _ _ _ (laws.pure-is _ _ _ (c .before .before .before .before .before .wrapping-add-u16 .ensures) laws.Pure.swp (c .before .before .swp .ensures)))
 
 same-length-7 : tie.Need-same-length-7
 same-length-7 c = search needs
 
 returns-7 : tie.Need-returns-7
-returns-7 c = laws.arm 5 _ _ (omega arith) (omega arith) (c .before .before .before .before .match .keys6) (laws.on-work _ _ _ _ (laws.pure-is _ _ _ (c .before .before .before .before .before .wrapping-add-u16 .ensures) laws.Pure.rot (c .before .before .rot .ensures)))
+returns-7 c = laws.arm 5 _ _ tt tt (c .before .before .before .before .match .keys6) (laws.on-work _ _ _ _ (laws.pure-is _ _ _ (c .before .before .before .before .before .wrapping-add-u16 .ensures) laws.Pure.rot (c .before .before .rot .ensures)))
 
 same-length-8 : tie.Need-same-length-8
 same-length-8 c = search needs
 
 returns-8 : tie.Need-returns-8
-returns-8 c = laws.arm 6 _ _ (omega arith) (omega arith) (c .before .before .before .before .match .keys7) (laws.on-work _ _ _ _ (laws.pure-is _ _ _ (c .before .before .before .before .before .wrapping-add-u16 .ensures) laws.Pure.dup (c .before .before .dup .ensures)))
+returns-8 c = laws.arm 6 _ _ tt tt (c .before .before .before .before .match .keys7) (laws.on-work _ _ _ _ (laws.pure-is _ _ _ (c .before .before .before .before .before .wrapping-add-u16 .ensures) laws.Pure.dup (c .before .before .dup .ensures)))
 
 same-length-9 : tie.Need-same-length-9
 same-length-9 c = search needs
 
 returns-9 : tie.Need-returns-9
-returns-9 c = laws.arm 7 _ _ (omega arith) (omega arith) (c .before .before .before .before .match .keys8) (laws.on-work _ _ _ _ (laws.pure-is _ _ _ (c .before .before .before .before .before .wrapping-add-u16 .ensures) laws.Pure.ovr (c .before .before .ovr .ensures)))
+returns-9 c = laws.arm 7 _ _ tt tt (c .before .before .before .before .match .keys8) (laws.on-work _ _ _ _ (laws.pure-is _ _ _ (c .before .before .before .before .before .wrapping-add-u16 .ensures) laws.Pure.ovr (c .before .before .ovr .ensures)))
 
 same-length-10 : tie.Need-same-length-10
 same-length-10 c = search needs
 
 returns-10 : tie.Need-returns-10
-returns-10 c = laws.arm 8 _ _ (omega arith) (omega arith) (c .before .before .before .before .match .keys9) (laws.on-work _ _ _ _ (laws.pure-is _ _ _ (c .before .before .before .before .before .wrapping-add-u16 .ensures) laws.Pure.comparing (c .before .before .compare .ensures)))
+returns-10 c = laws.arm 8 _ _ tt tt (c .before .before .before .before .match .keys9) (laws.on-work _ _ _ _ (laws.pure-is _ _ _ (c .before .before .before .before .before .wrapping-add-u16 .ensures) laws.Pure.comparing (c .before .before .compare .ensures)))
 
 same-length-11 : tie.Need-same-length-11
 same-length-11 c = search needs
 
 returns-11 : tie.Need-returns-11
-returns-11 c = laws.arm 9 _ _ (omega arith) (omega arith) (c .before .before .before .before .match .keys10) (laws.on-work _ _ _ _ (laws.pure-is _ _ _ (c .before .before .before .before .before .wrapping-add-u16 .ensures) laws.Pure.comparing (c .before .before .compare2 .ensures)))
+returns-11 c = laws.arm 9 _ _ tt tt (c .before .before .before .before .match .keys10) (laws.on-work _ _ _ _ (laws.pure-is _ _ _ (c .before .before .before .before .before .wrapping-add-u16 .ensures) laws.Pure.comparing (c .before .before .compare2 .ensures)))
 
 same-length-12 : tie.Need-same-length-12
 same-length-12 c = search needs
 
 returns-12 : tie.Need-returns-12
-returns-12 c = laws.arm 10 _ _ (omega arith) (omega arith) (c .before .before .before .before .match .keys11) (laws.on-work _ _ _ _ (laws.pure-is _ _ _ (c .before .before .before .before .before .wrapping-add-u16 .ensures) laws.Pure.comparing (c .before .before .compare3 .ensures)))
+returns-12 c = laws.arm 10 _ _ tt tt (c .before .before .before .before .match .keys11) (laws.on-work _ _ _ _ (laws.pure-is _ _ _ (c .before .before .before .before .before .wrapping-add-u16 .ensures) laws.Pure.comparing (c .before .before .compare3 .ensures)))
 
 same-length-13 : tie.Need-same-length-13
 same-length-13 c = search needs
 
 returns-13 : tie.Need-returns-13
-returns-13 c = laws.arm 11 _ _ (omega arith) (omega arith) (c .before .before .before .before .match .keys12) (laws.on-work _ _ _ _ (laws.pure-is _ _ _ (c .before .before .before .before .before .wrapping-add-u16 .ensures) laws.Pure.comparing (c .before .before .compare4 .ensures)))
+returns-13 c = laws.arm 11 _ _ tt tt (c .before .before .before .before .match .keys12) (laws.on-work _ _ _ _ (laws.pure-is _ _ _ (c .before .before .before .before .before .wrapping-add-u16 .ensures) laws.Pure.comparing (c .before .before .compare4 .ensures)))
 
 same-length-14 : tie.Need-same-length-14
 same-length-14 c = search needs
 
 returns-14 : tie.Need-returns-14
-returns-14 c = laws.arm 12 _ _ (omega arith) (omega arith) (c .before .before .before .match .keys13) (laws.on-work _ _ _ _ (laws.jmp-is _ _ _ (c .before .before .before .before .wrapping-add-u16 .ensures) (c .before .jmp .ensures) (c .lower .ensures)))
+returns-14 c = laws.arm 12 _ _ tt tt (c .before .before .before .match .keys13) (laws.on-work _ _ _ _ (laws.jmp-is _ _ _ (c .before .before .before .before .wrapping-add-u16 .ensures) (c .before .jmp .ensures) (c .lower .ensures)))
 
 same-length-15 : tie.Need-same-length-15
 same-length-15 c = search needs
 
 returns-15 : tie.Need-returns-15
-returns-15 c = laws.arm 13 _ _ (omega arith) (omega arith) (c .before .before .before .match .keys14) (laws.on-work _ _ _ _ (laws.jcn-is _ _ _ (c .before .before .before .before .wrapping-add-u16 .ensures) (c .before .jcn .ensures) (c .lower2 .ensures)))
+returns-15 c = laws.arm 13 _ _ tt tt (c .before .before .before .match .keys14) (laws.on-work _ _ _ _ (laws.jcn-is _ _ _ (c .before .before .before .before .wrapping-add-u16 .ensures) (c .before .jcn .ensures) (c .lower2 .ensures)))
 
 same-length-16 : tie.Need-same-length-16
 same-length-16 c = search needs
@@ -628,7 +628,7 @@ same-length-17 : tie.Need-same-length-17
 same-length-17 c = search needs
 
 returns-16 : tie.Need-returns-16
-returns-16 c = laws.arm 14 _ _ (omega arith) (omega arith) (c .before .before .before .before .before .before .before .match .keys15) (laws.on-work _ _ _ _ (laws.jsr-is _ _ _ (c .before .before .before .before .before .before .before .before .wrapping-add-u16 .ensures) (c .before .before .before .before .before .jmp2 .ensures) (c .before .before .before .push .ensures) (c .lower3 .ensures)))
+returns-16 c = laws.arm 14 _ _ tt tt (c .before .before .before .before .before .before .before .match .keys15) (laws.on-work _ _ _ _ (laws.jsr-is _ _ _ (c .before .before .before .before .before .before .before .before .wrapping-add-u16 .ensures) (c .before .before .before .before .before .jmp2 .ensures) (c .before .before .before .push .ensures) (c .lower3 .ensures)))
 
 same-length-18 : tie.Need-same-length-18
 same-length-18 c = search needs
@@ -637,7 +637,7 @@ same-length-19 : tie.Need-same-length-19
 same-length-19 c = search needs
 
 returns-17 : tie.Need-returns-17
-returns-17 c = laws.arm 15 _ _ (omega arith) (omega arith) (c .before .before .before .before .before .before .match .keys16) (laws.on-work _ _ _ _ (laws.sth-is _ _ _ (c .before .before .before .before .before .before .before .wrapping-add-u16 .ensures) (c .before .before .before .sth .ensures) (c .lower4 .ensures)))
+returns-17 c = laws.arm 15 _ _ tt tt (c .before .before .before .before .before .before .match .keys16) (laws.on-work _ _ _ _ (laws.sth-is _ _ _ (c .before .before .before .before .before .before .before .wrapping-add-u16 .ensures) (c .before .before .before .sth .ensures) (c .lower4 .ensures)))
 
 same-length-20 : tie.Need-same-length-20
 same-length-20 c = search needs
@@ -646,7 +646,7 @@ same-length-21 : tie.Need-same-length-21
 same-length-21 c = search needs
 
 returns-18 : tie.Need-returns-18
-returns-18 c = laws.arm 16 _ _ (omega arith) (omega arith) (c .before .before .before .before .before .match .keys17) (laws.on-work _ _ _ _ (laws.ldz-is _ _ _ (c .before .before .before .before .before .before .wrapping-add-u16 .ensures) (c .before .before .ldz .ensures)))
+returns-18 c = laws.arm 16 _ _ tt tt (c .before .before .before .before .before .match .keys17) (laws.on-work _ _ _ _ (laws.pure-is _ _ _ (c .before .before .before .before .before .before .wrapping-add-u16 .ensures) laws.Pure.ldz (c .before .before .ldz .ensures)))
 
 same-length-22 : tie.Need-same-length-22
 same-length-22 c = search needs
@@ -655,7 +655,7 @@ same-length-23 : tie.Need-same-length-23
 same-length-23 c = search needs
 
 returns-19 : tie.Need-returns-19
-returns-19 c = laws.arm 17 _ _ (omega arith) (omega arith) (c .before .before .before .before .before .before .match .keys18) (laws.on-work _ _ _ _ (laws.stz-is _ _ _ (c .before .before .before .before .before .before .before .wrapping-add-u16 .ensures) (c .before .before .before .stz .ensures) (c .lower5 .ensures)))
+returns-19 c = laws.arm 17 _ _ tt tt (c .before .before .before .before .before .before .match .keys18) (laws.on-work _ _ _ _ (laws.store-is _ _ _ (c .before .before .before .before .before .before .before .wrapping-add-u16 .ensures) laws.Stores.stz (c .before .before .before .stz .ensures) (c .lower5 .ensures)))
 
 same-length-24 : tie.Need-same-length-24
 same-length-24 c = search needs
@@ -664,7 +664,7 @@ same-length-25 : tie.Need-same-length-25
 same-length-25 c = search needs
 
 returns-20 : tie.Need-returns-20
-returns-20 c = laws.arm 18 _ _ (omega arith) (omega arith) (c .before .before .before .before .before .match .keys19) (laws.on-work _ _ _ _ (laws.ldr-is _ _ _ (c .before .before .before .before .before .before .wrapping-add-u16 .ensures) (c .before .before .ldr .ensures)))
+returns-20 c = laws.arm 18 _ _ tt tt (c .before .before .before .before .before .match .keys19) (laws.on-work _ _ _ _ (laws.pure-is _ _ _ (c .before .before .before .before .before .before .wrapping-add-u16 .ensures) laws.Pure.ldr (c .before .before .ldr .ensures)))
 
 same-length-26 : tie.Need-same-length-26
 same-length-26 c = search needs
@@ -673,7 +673,7 @@ same-length-27 : tie.Need-same-length-27
 same-length-27 c = search needs
 
 returns-21 : tie.Need-returns-21
-returns-21 c = laws.arm 19 _ _ (omega arith) (omega arith) (c .before .before .before .before .before .before .match .keys20) (laws.on-work _ _ _ _ (laws.str-is _ _ _ (c .before .before .before .before .before .before .before .wrapping-add-u16 .ensures) (c .before .before .before .str .ensures) (c .lower6 .ensures)))
+returns-21 c = laws.arm 19 _ _ tt tt (c .before .before .before .before .before .before .match .keys20) (laws.on-work _ _ _ _ (laws.store-is _ _ _ (c .before .before .before .before .before .before .before .wrapping-add-u16 .ensures) laws.Stores.str (c .before .before .before .str .ensures) (c .lower6 .ensures)))
 
 same-length-28 : tie.Need-same-length-28
 same-length-28 c = search needs
@@ -682,7 +682,7 @@ same-length-29 : tie.Need-same-length-29
 same-length-29 c = search needs
 
 returns-22 : tie.Need-returns-22
-returns-22 c = laws.arm 20 _ _ (omega arith) (omega arith) (c .before .before .before .before .before .match .keys21) (laws.on-work _ _ _ _ (laws.lda-is _ _ _ (c .before .before .before .before .before .before .wrapping-add-u16 .ensures) (c .before .before .lda .ensures)))
+returns-22 c = laws.arm 20 _ _ tt tt (c .before .before .before .before .before .match .keys21) (laws.on-work _ _ _ _ (laws.pure-is _ _ _ (c .before .before .before .before .before .before .wrapping-add-u16 .ensures) laws.Pure.lda (c .before .before .lda .ensures)))
 
 same-length-30 : tie.Need-same-length-30
 same-length-30 c = search needs
@@ -691,7 +691,7 @@ same-length-31 : tie.Need-same-length-31
 same-length-31 c = search needs
 
 returns-23 : tie.Need-returns-23
-returns-23 c = laws.arm 21 _ _ (omega arith) (omega arith) (c .before .before .before .before .before .before .match .keys22) (laws.on-work _ _ _ _ (laws.sta-is _ _ _ (c .before .before .before .before .before .before .before .wrapping-add-u16 .ensures) (c .before .before .before .sta .ensures) (c .lower7 .ensures)))
+returns-23 c = laws.arm 21 _ _ tt tt (c .before .before .before .before .before .before .match .keys22) (laws.on-work _ _ _ _ (laws.store-is _ _ _ (c .before .before .before .before .before .before .before .wrapping-add-u16 .ensures) laws.Stores.sta (c .before .before .before .sta .ensures) (c .lower7 .ensures)))
 
 same-length-32 : tie.Need-same-length-32
 same-length-32 c = search needs
@@ -700,7 +700,7 @@ same-length-33 : tie.Need-same-length-33
 same-length-33 c = search needs
 
 returns-24 : tie.Need-returns-24
-returns-24 c = laws.arm 22 _ _ (omega arith) (omega arith) (c .before .before .before .before .before .match .keys23) (laws.on-work _ _ _ _ (laws.dei-is _ _ _ (c .before .before .before .before .before .before .wrapping-add-u16 .ensures) (c .before .before .dei .ensures)))
+returns-24 c = laws.arm 22 _ _ tt tt (c .before .before .before .before .before .match .keys23) (laws.on-work _ _ _ _ (laws.pure-is _ _ _ (c .before .before .before .before .before .before .wrapping-add-u16 .ensures) laws.Pure.dei (c .before .before .dei .ensures)))
 
 same-length-34 : tie.Need-same-length-34
 same-length-34 c = search needs
@@ -709,55 +709,55 @@ same-length-35 : tie.Need-same-length-35
 same-length-35 c = search needs
 
 returns-25 : tie.Need-returns-25
-returns-25 c = laws.arm 23 _ _ (omega arith) (omega arith) (c .before .before .before .before .before .before .match .keys24) (laws.on-work _ _ _ _ (laws.deo-is _ _ _ (c .before .before .before .before .before .before .before .wrapping-add-u16 .ensures) (c .before .before .before .deo .ensures) (c .lower8 .ensures)))
+returns-25 c = laws.arm 23 _ _ tt tt (c .before .before .before .before .before .before .match .keys24) (laws.on-work _ _ _ _ (laws.deo-is _ _ _ (c .before .before .before .before .before .before .before .wrapping-add-u16 .ensures) (c .before .before .before .deo .ensures) (c .lower8 .ensures)))
 
 same-length-36 : tie.Need-same-length-36
 same-length-36 c = search needs
 
 returns-26 : tie.Need-returns-26
-returns-26 c = laws.arm 24 _ _ (omega arith) (omega arith) (c .before .before .before .before .match .keys25) (laws.on-work _ _ _ _ (laws.pure-is _ _ _ (c .before .before .before .before .before .wrapping-add-u16 .ensures) laws.Pure.computing (c .before .before .compute .ensures)))
+returns-26 c = laws.arm 24 _ _ tt tt (c .before .before .before .before .match .keys25) (laws.on-work _ _ _ _ (laws.pure-is _ _ _ (c .before .before .before .before .before .wrapping-add-u16 .ensures) laws.Pure.computing (c .before .before .compute .ensures)))
 
 same-length-37 : tie.Need-same-length-37
 same-length-37 c = search needs
 
 returns-27 : tie.Need-returns-27
-returns-27 c = laws.arm 25 _ _ (omega arith) (omega arith) (c .before .before .before .before .match .keys26) (laws.on-work _ _ _ _ (laws.pure-is _ _ _ (c .before .before .before .before .before .wrapping-add-u16 .ensures) laws.Pure.computing (c .before .before .compute2 .ensures)))
+returns-27 c = laws.arm 25 _ _ tt tt (c .before .before .before .before .match .keys26) (laws.on-work _ _ _ _ (laws.pure-is _ _ _ (c .before .before .before .before .before .wrapping-add-u16 .ensures) laws.Pure.computing (c .before .before .compute2 .ensures)))
 
 same-length-38 : tie.Need-same-length-38
 same-length-38 c = search needs
 
 returns-28 : tie.Need-returns-28
-returns-28 c = laws.arm 26 _ _ (omega arith) (omega arith) (c .before .before .before .before .match .keys27) (laws.on-work _ _ _ _ (laws.pure-is _ _ _ (c .before .before .before .before .before .wrapping-add-u16 .ensures) laws.Pure.computing (c .before .before .compute3 .ensures)))
+returns-28 c = laws.arm 26 _ _ tt tt (c .before .before .before .before .match .keys27) (laws.on-work _ _ _ _ (laws.pure-is _ _ _ (c .before .before .before .before .before .wrapping-add-u16 .ensures) laws.Pure.computing (c .before .before .compute3 .ensures)))
 
 same-length-39 : tie.Need-same-length-39
 same-length-39 c = search needs
 
 returns-29 : tie.Need-returns-29
-returns-29 c = laws.arm 27 _ _ (omega arith) (omega arith) (c .before .before .before .before .match .keys28) (laws.on-work _ _ _ _ (laws.pure-is _ _ _ (c .before .before .before .before .before .wrapping-add-u16 .ensures) laws.Pure.computing (c .before .before .compute4 .ensures)))
+returns-29 c = laws.arm 27 _ _ tt tt (c .before .before .before .before .match .keys28) (laws.on-work _ _ _ _ (laws.pure-is _ _ _ (c .before .before .before .before .before .wrapping-add-u16 .ensures) laws.Pure.computing (c .before .before .compute4 .ensures)))
 
 same-length-40 : tie.Need-same-length-40
 same-length-40 c = search needs
 
 returns-30 : tie.Need-returns-30
-returns-30 c = laws.arm 28 _ _ (omega arith) (omega arith) (c .before .before .before .before .match .keys29) (laws.on-work _ _ _ _ (laws.pure-is _ _ _ (c .before .before .before .before .before .wrapping-add-u16 .ensures) laws.Pure.computing (c .before .before .compute5 .ensures)))
+returns-30 c = laws.arm 28 _ _ tt tt (c .before .before .before .before .match .keys29) (laws.on-work _ _ _ _ (laws.pure-is _ _ _ (c .before .before .before .before .before .wrapping-add-u16 .ensures) laws.Pure.computing (c .before .before .compute5 .ensures)))
 
 same-length-41 : tie.Need-same-length-41
 same-length-41 c = search needs
 
 returns-31 : tie.Need-returns-31
-returns-31 c = laws.arm 29 _ _ (omega arith) (omega arith) (c .before .before .before .before .match .keys30) (laws.on-work _ _ _ _ (laws.pure-is _ _ _ (c .before .before .before .before .before .wrapping-add-u16 .ensures) laws.Pure.computing (c .before .before .compute6 .ensures)))
+returns-31 c = laws.arm 29 _ _ tt tt (c .before .before .before .before .match .keys30) (laws.on-work _ _ _ _ (laws.pure-is _ _ _ (c .before .before .before .before .before .wrapping-add-u16 .ensures) laws.Pure.computing (c .before .before .compute6 .ensures)))
 
 same-length-42 : tie.Need-same-length-42
 same-length-42 c = search needs
 
 returns-32 : tie.Need-returns-32
-returns-32 c = laws.arm 30 _ _ (omega arith) (omega arith) (c .before .before .before .before .match .keys31) (laws.on-work _ _ _ _ (laws.pure-is _ _ _ (c .before .before .before .before .before .wrapping-add-u16 .ensures) laws.Pure.computing (c .before .before .compute7 .ensures)))
+returns-32 c = laws.arm 30 _ _ tt tt (c .before .before .before .before .match .keys31) (laws.on-work _ _ _ _ (laws.pure-is _ _ _ (c .before .before .before .before .before .wrapping-add-u16 .ensures) laws.Pure.computing (c .before .before .compute7 .ensures)))
 
 same-length-43 : tie.Need-same-length-43
 same-length-43 c = search needs
 
 returns-33 : tie.Need-returns-33
-returns-33 c = laws.arm 31 _ _ (omega arith) (omega arith) (c .before .before .before .before .match .keys32) (laws.on-work _ _ _ _ (laws.pure-is _ _ _ (c .before .before .before .before .before .wrapping-add-u16 .ensures) laws.Pure.sft (c .before .before .sft .ensures)))
+returns-33 c = laws.arm 31 _ _ tt tt (c .before .before .before .before .match .keys32) (laws.on-work _ _ _ _ (laws.pure-is _ _ _ (c .before .before .before .before .before .wrapping-add-u16 .ensures) laws.Pure.sft (c .before .before .sft .ensures)))
 
 same-length-44 : tie.Need-same-length-44
 same-length-44 c = search needs
@@ -766,7 +766,7 @@ same-length-45 : tie.Need-same-length-45
 same-length-45 c = search needs
 
 returns-34 : tie.Need-returns-34
-returns-34 c = laws.lit-work true _ (c .before .before .before .before .before .before .before .match .keys33) (c .before .before .before .before .before .before .if2 .taken) (c .before .before .before .before .before .wrapping-add-u163 .ensures) (c .before .before .lit2 .ensures)
+returns-34 c = laws.lit-is true false _ (c .before .before .before .before .before .before .before .match .keys33) (c .before .before .before .before .before .before .if2 .taken) (c .before .before .before .before .before .wrapping-add-u163 .ensures) (c .before .before .lit2 .ensures)
 
 same-length-46 : tie.Need-same-length-46
 same-length-46 c = search needs
@@ -781,79 +781,79 @@ same-length-48 : tie.Need-same-length-48
 same-length-48 c = search needs
 
 returns-36 : tie.Need-returns-36
-returns-36 c = laws.arm 33 _ _ (omega arith) (omega arith) (c .before .before .before .before .match .keys34) (laws.on-work _ _ _ _ (laws.pure-is _ _ _ (c .before .before .before .before .before .wrapping-add-u16 .ensures) laws.Pure.inc (c .before .before .inc2 .ensures)))
+returns-36 c = laws.arm 33 _ _ tt tt (c .before .before .before .before .match .keys34) (laws.on-work _ _ _ _ (laws.pure-is _ _ _ (c .before .before .before .before .before .wrapping-add-u16 .ensures) laws.Pure.inc (c .before .before .inc2 .ensures)))
 
 same-length-49 : tie.Need-same-length-49
 same-length-49 c = search needs
 
 returns-37 : tie.Need-returns-37
-returns-37 c = laws.arm 34 _ _ (omega arith) (omega arith) (c .before .before .match .keys35) (laws.on-work _ _ _ _ (laws.pure-is _ _ _ (c .before .before .before .wrapping-add-u16 .ensures) laws.Pure.pop (c .pop2 .ensures)))
+returns-37 c = laws.arm 34 _ _ tt tt (c .before .before .match .keys35) (laws.on-work _ _ _ _ (laws.pure-is _ _ _ (c .before .before .before .wrapping-add-u16 .ensures) laws.Pure.pop (c .pop2 .ensures)))
 
 same-length-50 : tie.Need-same-length-50
 same-length-50 c = search needs
 
 returns-38 : tie.Need-returns-38
-returns-38 c = laws.arm 35 _ _ (omega arith) (omega arith) (c .before .before .before .before .match .keys36) (laws.on-work _ _ _ _ (laws.pure-is _ _ _ (c .before .before .before .before .before .wrapping-add-u16 .ensures) laws.Pure.nip (c .before .before .nip2 .ensures)))
+returns-38 c = laws.arm 35 _ _ tt tt (c .before .before .before .before .match .keys36) (laws.on-work _ _ _ _ (laws.pure-is _ _ _ (c .before .before .before .before .before .wrapping-add-u16 .ensures) laws.Pure.nip (c .before .before .nip2 .ensures)))
 
 same-length-51 : tie.Need-same-length-51
 same-length-51 c = search needs
 
 returns-39 : tie.Need-returns-39
-returns-39 c = laws.arm 36 _ _ (omega arith) (omega arith) (c .before .before .before .before .match .keys37) (laws.on-work _ _ _ _ (laws.pure-is _ _ _ (c .before .before .before .before .before .wrapping-add-u16 .ensures) laws.Pure.swp (c .before .before .swp2 .ensures)))
+returns-39 c = laws.arm 36 _ _ tt tt (c .before .before .before .before .match .keys37) (laws.on-work _ _ _ _ (laws.pure-is _ _ _ (c .before .before .before .before .before .wrapping-add-u16 .ensures) laws.Pure.swp (c .before .before .swp2 .ensures)))
 
 same-length-52 : tie.Need-same-length-52
 same-length-52 c = search needs
 
 returns-40 : tie.Need-returns-40
-returns-40 c = laws.arm 37 _ _ (omega arith) (omega arith) (c .before .before .before .before .match .keys38) (laws.on-work _ _ _ _ (laws.pure-is _ _ _ (c .before .before .before .before .before .wrapping-add-u16 .ensures) laws.Pure.rot (c .before .before .rot2 .ensures)))
+returns-40 c = laws.arm 37 _ _ tt tt (c .before .before .before .before .match .keys38) (laws.on-work _ _ _ _ (laws.pure-is _ _ _ (c .before .before .before .before .before .wrapping-add-u16 .ensures) laws.Pure.rot (c .before .before .rot2 .ensures)))
 
 same-length-53 : tie.Need-same-length-53
 same-length-53 c = search needs
 
 returns-41 : tie.Need-returns-41
-returns-41 c = laws.arm 38 _ _ (omega arith) (omega arith) (c .before .before .before .before .match .keys39) (laws.on-work _ _ _ _ (laws.pure-is _ _ _ (c .before .before .before .before .before .wrapping-add-u16 .ensures) laws.Pure.dup (c .before .before .dup2 .ensures)))
+returns-41 c = laws.arm 38 _ _ tt tt (c .before .before .before .before .match .keys39) (laws.on-work _ _ _ _ (laws.pure-is _ _ _ (c .before .before .before .before .before .wrapping-add-u16 .ensures) laws.Pure.dup (c .before .before .dup2 .ensures)))
 
 same-length-54 : tie.Need-same-length-54
 same-length-54 c = search needs
 
 returns-42 : tie.Need-returns-42
-returns-42 c = laws.arm 39 _ _ (omega arith) (omega arith) (c .before .before .before .before .match .keys40) (laws.on-work _ _ _ _ (laws.pure-is _ _ _ (c .before .before .before .before .before .wrapping-add-u16 .ensures) laws.Pure.ovr (c .before .before .ovr2 .ensures)))
+returns-42 c = laws.arm 39 _ _ tt tt (c .before .before .before .before .match .keys40) (laws.on-work _ _ _ _ (laws.pure-is _ _ _ (c .before .before .before .before .before .wrapping-add-u16 .ensures) laws.Pure.ovr (c .before .before .ovr2 .ensures)))
 
 same-length-55 : tie.Need-same-length-55
 same-length-55 c = search needs
 
 returns-43 : tie.Need-returns-43
-returns-43 c = laws.arm 40 _ _ (omega arith) (omega arith) (c .before .before .before .before .match .keys41) (laws.on-work _ _ _ _ (laws.pure-is _ _ _ (c .before .before .before .before .before .wrapping-add-u16 .ensures) laws.Pure.comparing (c .before .before .compare5 .ensures)))
+returns-43 c = laws.arm 40 _ _ tt tt (c .before .before .before .before .match .keys41) (laws.on-work _ _ _ _ (laws.pure-is _ _ _ (c .before .before .before .before .before .wrapping-add-u16 .ensures) laws.Pure.comparing (c .before .before .compare5 .ensures)))
 
 same-length-56 : tie.Need-same-length-56
 same-length-56 c = search needs
 
 returns-44 : tie.Need-returns-44
-returns-44 c = laws.arm 41 _ _ (omega arith) (omega arith) (c .before .before .before .before .match .keys42) (laws.on-work _ _ _ _ (laws.pure-is _ _ _ (c .before .before .before .before .before .wrapping-add-u16 .ensures) laws.Pure.comparing (c .before .before .compare6 .ensures)))
+returns-44 c = laws.arm 41 _ _ tt tt (c .before .before .before .before .match .keys42) (laws.on-work _ _ _ _ (laws.pure-is _ _ _ (c .before .before .before .before .before .wrapping-add-u16 .ensures) laws.Pure.comparing (c .before .before .compare6 .ensures)))
 
 same-length-57 : tie.Need-same-length-57
 same-length-57 c = search needs
 
 returns-45 : tie.Need-returns-45
-returns-45 c = laws.arm 42 _ _ (omega arith) (omega arith) (c .before .before .before .before .match .keys43) (laws.on-work _ _ _ _ (laws.pure-is _ _ _ (c .before .before .before .before .before .wrapping-add-u16 .ensures) laws.Pure.comparing (c .before .before .compare7 .ensures)))
+returns-45 c = laws.arm 42 _ _ tt tt (c .before .before .before .before .match .keys43) (laws.on-work _ _ _ _ (laws.pure-is _ _ _ (c .before .before .before .before .before .wrapping-add-u16 .ensures) laws.Pure.comparing (c .before .before .compare7 .ensures)))
 
 same-length-58 : tie.Need-same-length-58
 same-length-58 c = search needs
 
 returns-46 : tie.Need-returns-46
-returns-46 c = laws.arm 43 _ _ (omega arith) (omega arith) (c .before .before .before .before .match .keys44) (laws.on-work _ _ _ _ (laws.pure-is _ _ _ (c .before .before .before .before .before .wrapping-add-u16 .ensures) laws.Pure.comparing (c .before .before .compare8 .ensures)))
+returns-46 c = laws.arm 43 _ _ tt tt (c .before .before .before .before .match .keys44) (laws.on-work _ _ _ _ (laws.pure-is _ _ _ (c .before .before .before .before .before .wrapping-add-u16 .ensures) laws.Pure.comparing (c .before .before .compare8 .ensures)))
 
 same-length-59 : tie.Need-same-length-59
 same-length-59 c = search needs
 
 returns-47 : tie.Need-returns-47
-returns-47 c = laws.arm 44 _ _ (omega arith) (omega arith) (c .before .before .before .match .keys45) (laws.on-work _ _ _ _ (laws.jmp-is _ _ _ (c .before .before .before .before .wrapping-add-u16 .ensures) (c .before .jmp3 .ensures) (c .lower10 .ensures)))
+returns-47 c = laws.arm 44 _ _ tt tt (c .before .before .before .match .keys45) (laws.on-work _ _ _ _ (laws.jmp-is _ _ _ (c .before .before .before .before .wrapping-add-u16 .ensures) (c .before .jmp3 .ensures) (c .lower10 .ensures)))
 
 same-length-60 : tie.Need-same-length-60
 same-length-60 c = search needs
 
 returns-48 : tie.Need-returns-48
-returns-48 c = laws.arm 45 _ _ (omega arith) (omega arith) (c .before .before .before .match .keys46) (laws.on-work _ _ _ _ (laws.jcn-is _ _ _ (c .before .before .before .before .wrapping-add-u16 .ensures) (c .before .jcn2 .ensures) (c .lower11 .ensures)))
+returns-48 c = laws.arm 45 _ _ tt tt (c .before .before .before .match .keys46) (laws.on-work _ _ _ _ (laws.jcn-is _ _ _ (c .before .before .before .before .wrapping-add-u16 .ensures) (c .before .jcn2 .ensures) (c .lower11 .ensures)))
 
 same-length-61 : tie.Need-same-length-61
 same-length-61 c = search needs
@@ -862,7 +862,7 @@ same-length-62 : tie.Need-same-length-62
 same-length-62 c = search needs
 
 returns-49 : tie.Need-returns-49
-returns-49 c = laws.arm 46 _ _ (omega arith) (omega arith) (c .before .before .before .before .before .before .before .match .keys47) (laws.on-work _ _ _ _ (laws.jsr-is _ _ _ (c .before .before .before .before .before .before .before .before .wrapping-add-u16 .ensures) (c .before .before .before .before .before .jmp4 .ensures) (c .before .before .before .push2 .ensures) (c .lower12 .ensures)))
+returns-49 c = laws.arm 46 _ _ tt tt (c .before .before .before .before .before .before .before .match .keys47) (laws.on-work _ _ _ _ (laws.jsr-is _ _ _ (c .before .before .before .before .before .before .before .before .wrapping-add-u16 .ensures) (c .before .before .before .before .before .jmp4 .ensures) (c .before .before .before .push2 .ensures) (c .lower12 .ensures)))
 
 same-length-63 : tie.Need-same-length-63
 same-length-63 c = search needs
@@ -871,7 +871,7 @@ same-length-64 : tie.Need-same-length-64
 same-length-64 c = search needs
 
 returns-50 : tie.Need-returns-50
-returns-50 c = laws.arm 47 _ _ (omega arith) (omega arith) (c .before .before .before .before .before .before .match .keys48) (laws.on-work _ _ _ _ (laws.sth-is _ _ _ (c .before .before .before .before .before .before .before .wrapping-add-u16 .ensures) (c .before .before .before .sth2 .ensures) (c .lower13 .ensures)))
+returns-50 c = laws.arm 47 _ _ tt tt (c .before .before .before .before .before .before .match .keys48) (laws.on-work _ _ _ _ (laws.sth-is _ _ _ (c .before .before .before .before .before .before .before .wrapping-add-u16 .ensures) (c .before .before .before .sth2 .ensures) (c .lower13 .ensures)))
 
 same-length-65 : tie.Need-same-length-65
 same-length-65 c = search needs
@@ -880,7 +880,7 @@ same-length-66 : tie.Need-same-length-66
 same-length-66 c = search needs
 
 returns-51 : tie.Need-returns-51
-returns-51 c = laws.arm 48 _ _ (omega arith) (omega arith) (c .before .before .before .before .before .match .keys49) (laws.on-work _ _ _ _ (laws.ldz-is _ _ _ (c .before .before .before .before .before .before .wrapping-add-u16 .ensures) (c .before .before .ldz2 .ensures)))
+returns-51 c = laws.arm 48 _ _ tt tt (c .before .before .before .before .before .match .keys49) (laws.on-work _ _ _ _ (laws.pure-is _ _ _ (c .before .before .before .before .before .before .wrapping-add-u16 .ensures) laws.Pure.ldz (c .before .before .ldz2 .ensures)))
 
 same-length-67 : tie.Need-same-length-67
 same-length-67 c = search needs
@@ -889,7 +889,7 @@ same-length-68 : tie.Need-same-length-68
 same-length-68 c = search needs
 
 returns-52 : tie.Need-returns-52
-returns-52 c = laws.arm 49 _ _ (omega arith) (omega arith) (c .before .before .before .before .before .before .match .keys50) (laws.on-work _ _ _ _ (laws.stz-is _ _ _ (c .before .before .before .before .before .before .before .wrapping-add-u16 .ensures) (c .before .before .before .stz2 .ensures) (c .lower14 .ensures)))
+returns-52 c = laws.arm 49 _ _ tt tt (c .before .before .before .before .before .before .match .keys50) (laws.on-work _ _ _ _ (laws.store-is _ _ _ (c .before .before .before .before .before .before .before .wrapping-add-u16 .ensures) laws.Stores.stz (c .before .before .before .stz2 .ensures) (c .lower14 .ensures)))
 
 same-length-69 : tie.Need-same-length-69
 same-length-69 c = search needs
@@ -898,7 +898,7 @@ same-length-70 : tie.Need-same-length-70
 same-length-70 c = search needs
 
 returns-53 : tie.Need-returns-53
-returns-53 c = laws.arm 50 _ _ (omega arith) (omega arith) (c .before .before .before .before .before .match .keys51) (laws.on-work _ _ _ _ (laws.ldr-is _ _ _ (c .before .before .before .before .before .before .wrapping-add-u16 .ensures) (c .before .before .ldr2 .ensures)))
+returns-53 c = laws.arm 50 _ _ tt tt (c .before .before .before .before .before .match .keys51) (laws.on-work _ _ _ _ (laws.pure-is _ _ _ (c .before .before .before .before .before .before .wrapping-add-u16 .ensures) laws.Pure.ldr (c .before .before .ldr2 .ensures)))
 
 same-length-71 : tie.Need-same-length-71
 same-length-71 c = search needs
@@ -907,7 +907,7 @@ same-length-72 : tie.Need-same-length-72
 same-length-72 c = search needs
 
 returns-54 : tie.Need-returns-54
-returns-54 c = laws.arm 51 _ _ (omega arith) (omega arith) (c .before .before .before .before .before .before .match .keys52) (laws.on-work _ _ _ _ (laws.str-is _ _ _ (c .before .before .before .before .before .before .before .wrapping-add-u16 .ensures) (c .before .before .before .str2 .ensures) (c .lower15 .ensures)))
+returns-54 c = laws.arm 51 _ _ tt tt (c .before .before .before .before .before .before .match .keys52) (laws.on-work _ _ _ _ (laws.store-is _ _ _ (c .before .before .before .before .before .before .before .wrapping-add-u16 .ensures) laws.Stores.str (c .before .before .before .str2 .ensures) (c .lower15 .ensures)))
 
 same-length-73 : tie.Need-same-length-73
 same-length-73 c = search needs
@@ -916,7 +916,7 @@ same-length-74 : tie.Need-same-length-74
 same-length-74 c = search needs
 
 returns-55 : tie.Need-returns-55
-returns-55 c = laws.arm 52 _ _ (omega arith) (omega arith) (c .before .before .before .before .before .match .keys53) (laws.on-work _ _ _ _ (laws.lda-is _ _ _ (c .before .before .before .before .before .before .wrapping-add-u16 .ensures) (c .before .before .lda2 .ensures)))
+returns-55 c = laws.arm 52 _ _ tt tt (c .before .before .before .before .before .match .keys53) (laws.on-work _ _ _ _ (laws.pure-is _ _ _ (c .before .before .before .before .before .before .wrapping-add-u16 .ensures) laws.Pure.lda (c .before .before .lda2 .ensures)))
 
 same-length-75 : tie.Need-same-length-75
 same-length-75 c = search needs
@@ -925,7 +925,7 @@ same-length-76 : tie.Need-same-length-76
 same-length-76 c = search needs
 
 returns-56 : tie.Need-returns-56
-returns-56 c = laws.arm 53 _ _ (omega arith) (omega arith) (c .before .before .before .before .before .before .match .keys54) (laws.on-work _ _ _ _ (laws.sta-is _ _ _ (c .before .before .before .before .before .before .before .wrapping-add-u16 .ensures) (c .before .before .before .sta2 .ensures) (c .lower16 .ensures)))
+returns-56 c = laws.arm 53 _ _ tt tt (c .before .before .before .before .before .before .match .keys54) (laws.on-work _ _ _ _ (laws.store-is _ _ _ (c .before .before .before .before .before .before .before .wrapping-add-u16 .ensures) laws.Stores.sta (c .before .before .before .sta2 .ensures) (c .lower16 .ensures)))
 
 same-length-77 : tie.Need-same-length-77
 same-length-77 c = search needs
@@ -934,7 +934,7 @@ same-length-78 : tie.Need-same-length-78
 same-length-78 c = search needs
 
 returns-57 : tie.Need-returns-57
-returns-57 c = laws.arm 54 _ _ (omega arith) (omega arith) (c .before .before .before .before .before .match .keys55) (laws.on-work _ _ _ _ (laws.dei-is _ _ _ (c .before .before .before .before .before .before .wrapping-add-u16 .ensures) (c .before .before .dei2 .ensures)))
+returns-57 c = laws.arm 54 _ _ tt tt (c .before .before .before .before .before .match .keys55) (laws.on-work _ _ _ _ (laws.pure-is _ _ _ (c .before .before .before .before .before .before .wrapping-add-u16 .ensures) laws.Pure.dei (c .before .before .dei2 .ensures)))
 
 same-length-79 : tie.Need-same-length-79
 same-length-79 c = search needs
@@ -943,55 +943,55 @@ same-length-80 : tie.Need-same-length-80
 same-length-80 c = search needs
 
 returns-58 : tie.Need-returns-58
-returns-58 c = laws.arm 55 _ _ (omega arith) (omega arith) (c .before .before .before .before .before .before .match .keys56) (laws.on-work _ _ _ _ (laws.deo-is _ _ _ (c .before .before .before .before .before .before .before .wrapping-add-u16 .ensures) (c .before .before .before .deo2 .ensures) (c .lower17 .ensures)))
+returns-58 c = laws.arm 55 _ _ tt tt (c .before .before .before .before .before .before .match .keys56) (laws.on-work _ _ _ _ (laws.deo-is _ _ _ (c .before .before .before .before .before .before .before .wrapping-add-u16 .ensures) (c .before .before .before .deo2 .ensures) (c .lower17 .ensures)))
 
 same-length-81 : tie.Need-same-length-81
 same-length-81 c = search needs
 
 returns-59 : tie.Need-returns-59
-returns-59 c = laws.arm 56 _ _ (omega arith) (omega arith) (c .before .before .before .before .match .keys57) (laws.on-work _ _ _ _ (laws.pure-is _ _ _ (c .before .before .before .before .before .wrapping-add-u16 .ensures) laws.Pure.computing (c .before .before .compute8 .ensures)))
+returns-59 c = laws.arm 56 _ _ tt tt (c .before .before .before .before .match .keys57) (laws.on-work _ _ _ _ (laws.pure-is _ _ _ (c .before .before .before .before .before .wrapping-add-u16 .ensures) laws.Pure.computing (c .before .before .compute8 .ensures)))
 
 same-length-82 : tie.Need-same-length-82
 same-length-82 c = search needs
 
 returns-60 : tie.Need-returns-60
-returns-60 c = laws.arm 57 _ _ (omega arith) (omega arith) (c .before .before .before .before .match .keys58) (laws.on-work _ _ _ _ (laws.pure-is _ _ _ (c .before .before .before .before .before .wrapping-add-u16 .ensures) laws.Pure.computing (c .before .before .compute9 .ensures)))
+returns-60 c = laws.arm 57 _ _ tt tt (c .before .before .before .before .match .keys58) (laws.on-work _ _ _ _ (laws.pure-is _ _ _ (c .before .before .before .before .before .wrapping-add-u16 .ensures) laws.Pure.computing (c .before .before .compute9 .ensures)))
 
 same-length-83 : tie.Need-same-length-83
 same-length-83 c = search needs
 
 returns-61 : tie.Need-returns-61
-returns-61 c = laws.arm 58 _ _ (omega arith) (omega arith) (c .before .before .before .before .match .keys59) (laws.on-work _ _ _ _ (laws.pure-is _ _ _ (c .before .before .before .before .before .wrapping-add-u16 .ensures) laws.Pure.computing (c .before .before .compute10 .ensures)))
+returns-61 c = laws.arm 58 _ _ tt tt (c .before .before .before .before .match .keys59) (laws.on-work _ _ _ _ (laws.pure-is _ _ _ (c .before .before .before .before .before .wrapping-add-u16 .ensures) laws.Pure.computing (c .before .before .compute10 .ensures)))
 
 same-length-84 : tie.Need-same-length-84
 same-length-84 c = search needs
 
 returns-62 : tie.Need-returns-62
-returns-62 c = laws.arm 59 _ _ (omega arith) (omega arith) (c .before .before .before .before .match .keys60) (laws.on-work _ _ _ _ (laws.pure-is _ _ _ (c .before .before .before .before .before .wrapping-add-u16 .ensures) laws.Pure.computing (c .before .before .compute11 .ensures)))
+returns-62 c = laws.arm 59 _ _ tt tt (c .before .before .before .before .match .keys60) (laws.on-work _ _ _ _ (laws.pure-is _ _ _ (c .before .before .before .before .before .wrapping-add-u16 .ensures) laws.Pure.computing (c .before .before .compute11 .ensures)))
 
 same-length-85 : tie.Need-same-length-85
 same-length-85 c = search needs
 
 returns-63 : tie.Need-returns-63
-returns-63 c = laws.arm 60 _ _ (omega arith) (omega arith) (c .before .before .before .before .match .keys61) (laws.on-work _ _ _ _ (laws.pure-is _ _ _ (c .before .before .before .before .before .wrapping-add-u16 .ensures) laws.Pure.computing (c .before .before .compute12 .ensures)))
+returns-63 c = laws.arm 60 _ _ tt tt (c .before .before .before .before .match .keys61) (laws.on-work _ _ _ _ (laws.pure-is _ _ _ (c .before .before .before .before .before .wrapping-add-u16 .ensures) laws.Pure.computing (c .before .before .compute12 .ensures)))
 
 same-length-86 : tie.Need-same-length-86
 same-length-86 c = search needs
 
 returns-64 : tie.Need-returns-64
-returns-64 c = laws.arm 61 _ _ (omega arith) (omega arith) (c .before .before .before .before .match .keys62) (laws.on-work _ _ _ _ (laws.pure-is _ _ _ (c .before .before .before .before .before .wrapping-add-u16 .ensures) laws.Pure.computing (c .before .before .compute13 .ensures)))
+returns-64 c = laws.arm 61 _ _ tt tt (c .before .before .before .before .match .keys62) (laws.on-work _ _ _ _ (laws.pure-is _ _ _ (c .before .before .before .before .before .wrapping-add-u16 .ensures) laws.Pure.computing (c .before .before .compute13 .ensures)))
 
 same-length-87 : tie.Need-same-length-87
 same-length-87 c = search needs
 
 returns-65 : tie.Need-returns-65
-returns-65 c = laws.arm 62 _ _ (omega arith) (omega arith) (c .before .before .before .before .match .keys63) (laws.on-work _ _ _ _ (laws.pure-is _ _ _ (c .before .before .before .before .before .wrapping-add-u16 .ensures) laws.Pure.computing (c .before .before .compute14 .ensures)))
+returns-65 c = laws.arm 62 _ _ tt tt (c .before .before .before .before .match .keys63) (laws.on-work _ _ _ _ (laws.pure-is _ _ _ (c .before .before .before .before .before .wrapping-add-u16 .ensures) laws.Pure.computing (c .before .before .compute14 .ensures)))
 
 same-length-88 : tie.Need-same-length-88
 same-length-88 c = search needs
 
 returns-66 : tie.Need-returns-66
-returns-66 c = laws.arm 63 _ _ (omega arith) (omega arith) (c .before .before .before .before .match .keys64) (laws.on-work _ _ _ _ (laws.pure-is _ _ _ (c .before .before .before .before .before .wrapping-add-u16 .ensures) laws.Pure.sft (c .before .before .sft2 .ensures)))
+returns-66 c = laws.arm 63 _ _ tt tt (c .before .before .before .before .match .keys64) (laws.on-work _ _ _ _ (laws.pure-is _ _ _ (c .before .before .before .before .before .wrapping-add-u16 .ensures) laws.Pure.sft (c .before .before .sft2 .ensures)))
 
 same-length-89 : tie.Need-same-length-89
 same-length-89 c = search needs
@@ -1000,7 +1000,7 @@ same-length-90 : tie.Need-same-length-90
 same-length-90 c = search needs
 
 returns-67 : tie.Need-returns-67
-returns-67 c = laws.lit-return false _ (c .before .before .before .before .before .before .before .match .keys65) (c .before .before .before .before .before .before .if3 .taken) (c .before .before .before .before .before .wrapping-add-u164 .ensures) (c .before .before .lit3 .ensures)
+returns-67 c = laws.lit-is false true _ (c .before .before .before .before .before .before .before .match .keys65) (c .before .before .before .before .before .before .if3 .taken) (c .before .before .before .before .before .wrapping-add-u164 .ensures) (c .before .before .lit3 .ensures)
 
 same-length-91 : tie.Need-same-length-91
 same-length-91 c = search needs
@@ -1012,79 +1012,79 @@ same-length-92 : tie.Need-same-length-92
 same-length-92 c = search needs
 
 returns-69 : tie.Need-returns-69
-returns-69 c = laws.arm 65 _ _ (omega arith) (omega arith) (c .before .before .before .before .match .keys66) (laws.on-return _ _ _ _ (laws.pure-is _ _ _ (c .before .before .before .before .before .wrapping-add-u16 .ensures) laws.Pure.inc (c .before .before .inc3 .ensures)))
+returns-69 c = laws.arm 65 _ _ tt tt (c .before .before .before .before .match .keys66) (laws.on-return _ _ _ _ (laws.pure-is _ _ _ (c .before .before .before .before .before .wrapping-add-u16 .ensures) laws.Pure.inc (c .before .before .inc3 .ensures)))
 
 same-length-93 : tie.Need-same-length-93
 same-length-93 c = search needs
 
 returns-70 : tie.Need-returns-70
-returns-70 c = laws.arm 66 _ _ (omega arith) (omega arith) (c .before .before .match .keys67) (laws.on-return _ _ _ _ (laws.pure-is _ _ _ (c .before .before .before .wrapping-add-u16 .ensures) laws.Pure.pop (c .pop3 .ensures)))
+returns-70 c = laws.arm 66 _ _ tt tt (c .before .before .match .keys67) (laws.on-return _ _ _ _ (laws.pure-is _ _ _ (c .before .before .before .wrapping-add-u16 .ensures) laws.Pure.pop (c .pop3 .ensures)))
 
 same-length-94 : tie.Need-same-length-94
 same-length-94 c = search needs
 
 returns-71 : tie.Need-returns-71
-returns-71 c = laws.arm 67 _ _ (omega arith) (omega arith) (c .before .before .before .before .match .keys68) (laws.on-return _ _ _ _ (laws.pure-is _ _ _ (c .before .before .before .before .before .wrapping-add-u16 .ensures) laws.Pure.nip (c .before .before .nip3 .ensures)))
+returns-71 c = laws.arm 67 _ _ tt tt (c .before .before .before .before .match .keys68) (laws.on-return _ _ _ _ (laws.pure-is _ _ _ (c .before .before .before .before .before .wrapping-add-u16 .ensures) laws.Pure.nip (c .before .before .nip3 .ensures)))
 
 same-length-95 : tie.Need-same-length-95
 same-length-95 c = search needs
 
 returns-72 : tie.Need-returns-72
-returns-72 c = laws.arm 68 _ _ (omega arith) (omega arith) (c .before .before .before .before .match .keys69) (laws.on-return _ _ _ _ (laws.pure-is _ _ _ (c .before .before .before .before .before .wrapping-add-u16 .ensures) laws.Pure.swp (c .before .before .swp3 .ensures)))
+returns-72 c = laws.arm 68 _ _ tt tt (c .before .before .before .before .match .keys69) (laws.on-return _ _ _ _ (laws.pure-is _ _ _ (c .before .before .before .before .before .wrapping-add-u16 .ensures) laws.Pure.swp (c .before .before .swp3 .ensures)))
 
 same-length-96 : tie.Need-same-length-96
 same-length-96 c = search needs
 
 returns-73 : tie.Need-returns-73
-returns-73 c = laws.arm 69 _ _ (omega arith) (omega arith) (c .before .before .before .before .match .keys70) (laws.on-return _ _ _ _ (laws.pure-is _ _ _ (c .before .before .before .before .before .wrapping-add-u16 .ensures) laws.Pure.rot (c .before .before .rot3 .ensures)))
+returns-73 c = laws.arm 69 _ _ tt tt (c .before .before .before .before .match .keys70) (laws.on-return _ _ _ _ (laws.pure-is _ _ _ (c .before .before .before .before .before .wrapping-add-u16 .ensures) laws.Pure.rot (c .before .before .rot3 .ensures)))
 
 same-length-97 : tie.Need-same-length-97
 same-length-97 c = search needs
 
 returns-74 : tie.Need-returns-74
-returns-74 c = laws.arm 70 _ _ (omega arith) (omega arith) (c .before .before .before .before .match .keys71) (laws.on-return _ _ _ _ (laws.pure-is _ _ _ (c .before .before .before .before .before .wrapping-add-u16 .ensures) laws.Pure.dup (c .before .before .dup3 .ensures)))
+returns-74 c = laws.arm 70 _ _ tt tt (c .before .before .before .before .match .keys71) (laws.on-return _ _ _ _ (laws.pure-is _ _ _ (c .before .before .before .before .before .wrapping-add-u16 .ensures) laws.Pure.dup (c .before .before .dup3 .ensures)))
 
 same-length-98 : tie.Need-same-length-98
 same-length-98 c = search needs
 
 returns-75 : tie.Need-returns-75
-returns-75 c = laws.arm 71 _ _ (omega arith) (omega arith) (c .before .before .before .before .match .keys72) (laws.on-return _ _ _ _ (laws.pure-is _ _ _ (c .before .before .before .before .before .wrapping-add-u16 .ensures) laws.Pure.ovr (c .before .before .ovr3 .ensures)))
+returns-75 c = laws.arm 71 _ _ tt tt (c .before .before .before .before .match .keys72) (laws.on-return _ _ _ _ (laws.pure-is _ _ _ (c .before .before .before .before .before .wrapping-add-u16 .ensures) laws.Pure.ovr (c .before .before .ovr3 .ensures)))
 
 same-length-99 : tie.Need-same-length-99
 same-length-99 c = search needs
 
 returns-76 : tie.Need-returns-76
-returns-76 c = laws.arm 72 _ _ (omega arith) (omega arith) (c .before .before .before .before .match .keys73) (laws.on-return _ _ _ _ (laws.pure-is _ _ _ (c .before .before .before .before .before .wrapping-add-u16 .ensures) laws.Pure.comparing (c .before .before .compare9 .ensures)))
+returns-76 c = laws.arm 72 _ _ tt tt (c .before .before .before .before .match .keys73) (laws.on-return _ _ _ _ (laws.pure-is _ _ _ (c .before .before .before .before .before .wrapping-add-u16 .ensures) laws.Pure.comparing (c .before .before .compare9 .ensures)))
 
 same-length-100 : tie.Need-same-length-100
 same-length-100 c = search needs
 
 returns-77 : tie.Need-returns-77
-returns-77 c = laws.arm 73 _ _ (omega arith) (omega arith) (c .before .before .before .before .match .keys74) (laws.on-return _ _ _ _ (laws.pure-is _ _ _ (c .before .before .before .before .before .wrapping-add-u16 .ensures) laws.Pure.comparing (c .before .before .compare10 .ensures)))
+returns-77 c = laws.arm 73 _ _ tt tt (c .before .before .before .before .match .keys74) (laws.on-return _ _ _ _ (laws.pure-is _ _ _ (c .before .before .before .before .before .wrapping-add-u16 .ensures) laws.Pure.comparing (c .before .before .compare10 .ensures)))
 
 same-length-101 : tie.Need-same-length-101
 same-length-101 c = search needs
 
 returns-78 : tie.Need-returns-78
-returns-78 c = laws.arm 74 _ _ (omega arith) (omega arith) (c .before .before .before .before .match .keys75) (laws.on-return _ _ _ _ (laws.pure-is _ _ _ (c .before .before .before .before .before .wrapping-add-u16 .ensures) laws.Pure.comparing (c .before .before .compare11 .ensures)))
+returns-78 c = laws.arm 74 _ _ tt tt (c .before .before .before .before .match .keys75) (laws.on-return _ _ _ _ (laws.pure-is _ _ _ (c .before .before .before .before .before .wrapping-add-u16 .ensures) laws.Pure.comparing (c .before .before .compare11 .ensures)))
 
 same-length-102 : tie.Need-same-length-102
 same-length-102 c = search needs
 
 returns-79 : tie.Need-returns-79
-returns-79 c = laws.arm 75 _ _ (omega arith) (omega arith) (c .before .before .before .before .match .keys76) (laws.on-return _ _ _ _ (laws.pure-is _ _ _ (c .before .before .before .before .before .wrapping-add-u16 .ensures) laws.Pure.comparing (c .before .before .compare12 .ensures)))
+returns-79 c = laws.arm 75 _ _ tt tt (c .before .before .before .before .match .keys76) (laws.on-return _ _ _ _ (laws.pure-is _ _ _ (c .before .before .before .before .before .wrapping-add-u16 .ensures) laws.Pure.comparing (c .before .before .compare12 .ensures)))
 
 same-length-103 : tie.Need-same-length-103
 same-length-103 c = search needs
 
 returns-80 : tie.Need-returns-80
-returns-80 c = laws.arm 76 _ _ (omega arith) (omega arith) (c .before .before .before .match .keys77) (laws.on-return _ _ _ _ (laws.jmp-is _ _ _ (c .before .before .before .before .wrapping-add-u16 .ensures) (c .before .jmp5 .ensures) (c .lower18 .ensures)))
+returns-80 c = laws.arm 76 _ _ tt tt (c .before .before .before .match .keys77) (laws.on-return _ _ _ _ (laws.jmp-is _ _ _ (c .before .before .before .before .wrapping-add-u16 .ensures) (c .before .jmp5 .ensures) (c .lower18 .ensures)))
 
 same-length-104 : tie.Need-same-length-104
 same-length-104 c = search needs
 
 returns-81 : tie.Need-returns-81
-returns-81 c = laws.arm 77 _ _ (omega arith) (omega arith) (c .before .before .before .match .keys78) (laws.on-return _ _ _ _ (laws.jcn-is _ _ _ (c .before .before .before .before .wrapping-add-u16 .ensures) (c .before .jcn3 .ensures) (c .lower19 .ensures)))
+returns-81 c = laws.arm 77 _ _ tt tt (c .before .before .before .match .keys78) (laws.on-return _ _ _ _ (laws.jcn-is _ _ _ (c .before .before .before .before .wrapping-add-u16 .ensures) (c .before .jcn3 .ensures) (c .lower19 .ensures)))
 
 same-length-105 : tie.Need-same-length-105
 same-length-105 c = search needs
@@ -1093,7 +1093,7 @@ same-length-106 : tie.Need-same-length-106
 same-length-106 c = search needs
 
 returns-82 : tie.Need-returns-82
-returns-82 c = laws.arm 78 _ _ (omega arith) (omega arith) (c .before .before .before .before .before .before .before .match .keys79) (laws.on-return _ _ _ _ (laws.jsr-is _ _ _ (c .before .before .before .before .before .before .before .before .wrapping-add-u16 .ensures) (c .before .before .before .before .before .jmp6 .ensures) (c .before .before .before .push3 .ensures) (c .lower20 .ensures)))
+returns-82 c = laws.arm 78 _ _ tt tt (c .before .before .before .before .before .before .before .match .keys79) (laws.on-return _ _ _ _ (laws.jsr-is _ _ _ (c .before .before .before .before .before .before .before .before .wrapping-add-u16 .ensures) (c .before .before .before .before .before .jmp6 .ensures) (c .before .before .before .push3 .ensures) (c .lower20 .ensures)))
 
 same-length-107 : tie.Need-same-length-107
 same-length-107 c = search needs
@@ -1102,7 +1102,7 @@ same-length-108 : tie.Need-same-length-108
 same-length-108 c = search needs
 
 returns-83 : tie.Need-returns-83
-returns-83 c = laws.arm 79 _ _ (omega arith) (omega arith) (c .before .before .before .before .before .before .match .keys80) (laws.on-return _ _ _ _ (laws.sth-is _ _ _ (c .before .before .before .before .before .before .before .wrapping-add-u16 .ensures) (c .before .before .before .sth3 .ensures) (c .lower21 .ensures)))
+returns-83 c = laws.arm 79 _ _ tt tt (c .before .before .before .before .before .before .match .keys80) (laws.on-return _ _ _ _ (laws.sth-is _ _ _ (c .before .before .before .before .before .before .before .wrapping-add-u16 .ensures) (c .before .before .before .sth3 .ensures) (c .lower21 .ensures)))
 
 same-length-109 : tie.Need-same-length-109
 same-length-109 c = search needs
@@ -1111,7 +1111,7 @@ same-length-110 : tie.Need-same-length-110
 same-length-110 c = search needs
 
 returns-84 : tie.Need-returns-84
-returns-84 c = laws.arm 80 _ _ (omega arith) (omega arith) (c .before .before .before .before .before .match .keys81) (laws.on-return _ _ _ _ (laws.ldz-is _ _ _ (c .before .before .before .before .before .before .wrapping-add-u16 .ensures) (c .before .before .ldz3 .ensures)))
+returns-84 c = laws.arm 80 _ _ tt tt (c .before .before .before .before .before .match .keys81) (laws.on-return _ _ _ _ (laws.pure-is _ _ _ (c .before .before .before .before .before .before .wrapping-add-u16 .ensures) laws.Pure.ldz (c .before .before .ldz3 .ensures)))
 
 same-length-111 : tie.Need-same-length-111
 same-length-111 c = search needs
@@ -1120,7 +1120,7 @@ same-length-112 : tie.Need-same-length-112
 same-length-112 c = search needs
 
 returns-85 : tie.Need-returns-85
-returns-85 c = laws.arm 81 _ _ (omega arith) (omega arith) (c .before .before .before .before .before .before .match .keys82) (laws.on-return _ _ _ _ (laws.stz-is _ _ _ (c .before .before .before .before .before .before .before .wrapping-add-u16 .ensures) (c .before .before .before .stz3 .ensures) (c .lower22 .ensures)))
+returns-85 c = laws.arm 81 _ _ tt tt (c .before .before .before .before .before .before .match .keys82) (laws.on-return _ _ _ _ (laws.store-is _ _ _ (c .before .before .before .before .before .before .before .wrapping-add-u16 .ensures) laws.Stores.stz (c .before .before .before .stz3 .ensures) (c .lower22 .ensures)))
 
 same-length-113 : tie.Need-same-length-113
 same-length-113 c = search needs
@@ -1129,7 +1129,7 @@ same-length-114 : tie.Need-same-length-114
 same-length-114 c = search needs
 
 returns-86 : tie.Need-returns-86
-returns-86 c = laws.arm 82 _ _ (omega arith) (omega arith) (c .before .before .before .before .before .match .keys83) (laws.on-return _ _ _ _ (laws.ldr-is _ _ _ (c .before .before .before .before .before .before .wrapping-add-u16 .ensures) (c .before .before .ldr3 .ensures)))
+returns-86 c = laws.arm 82 _ _ tt tt (c .before .before .before .before .before .match .keys83) (laws.on-return _ _ _ _ (laws.pure-is _ _ _ (c .before .before .before .before .before .before .wrapping-add-u16 .ensures) laws.Pure.ldr (c .before .before .ldr3 .ensures)))
 
 same-length-115 : tie.Need-same-length-115
 same-length-115 c = search needs
@@ -1138,7 +1138,7 @@ same-length-116 : tie.Need-same-length-116
 same-length-116 c = search needs
 
 returns-87 : tie.Need-returns-87
-returns-87 c = laws.arm 83 _ _ (omega arith) (omega arith) (c .before .before .before .before .before .before .match .keys84) (laws.on-return _ _ _ _ (laws.str-is _ _ _ (c .before .before .before .before .before .before .before .wrapping-add-u16 .ensures) (c .before .before .before .str3 .ensures) (c .lower23 .ensures)))
+returns-87 c = laws.arm 83 _ _ tt tt (c .before .before .before .before .before .before .match .keys84) (laws.on-return _ _ _ _ (laws.store-is _ _ _ (c .before .before .before .before .before .before .before .wrapping-add-u16 .ensures) laws.Stores.str (c .before .before .before .str3 .ensures) (c .lower23 .ensures)))
 
 same-length-117 : tie.Need-same-length-117
 same-length-117 c = search needs
@@ -1147,7 +1147,7 @@ same-length-118 : tie.Need-same-length-118
 same-length-118 c = search needs
 
 returns-88 : tie.Need-returns-88
-returns-88 c = laws.arm 84 _ _ (omega arith) (omega arith) (c .before .before .before .before .before .match .keys85) (laws.on-return _ _ _ _ (laws.lda-is _ _ _ (c .before .before .before .before .before .before .wrapping-add-u16 .ensures) (c .before .before .lda3 .ensures)))
+returns-88 c = laws.arm 84 _ _ tt tt (c .before .before .before .before .before .match .keys85) (laws.on-return _ _ _ _ (laws.pure-is _ _ _ (c .before .before .before .before .before .before .wrapping-add-u16 .ensures) laws.Pure.lda (c .before .before .lda3 .ensures)))
 
 same-length-119 : tie.Need-same-length-119
 same-length-119 c = search needs
@@ -1156,7 +1156,7 @@ same-length-120 : tie.Need-same-length-120
 same-length-120 c = search needs
 
 returns-89 : tie.Need-returns-89
-returns-89 c = laws.arm 85 _ _ (omega arith) (omega arith) (c .before .before .before .before .before .before .match .keys86) (laws.on-return _ _ _ _ (laws.sta-is _ _ _ (c .before .before .before .before .before .before .before .wrapping-add-u16 .ensures) (c .before .before .before .sta3 .ensures) (c .lower24 .ensures)))
+returns-89 c = laws.arm 85 _ _ tt tt (c .before .before .before .before .before .before .match .keys86) (laws.on-return _ _ _ _ (laws.store-is _ _ _ (c .before .before .before .before .before .before .before .wrapping-add-u16 .ensures) laws.Stores.sta (c .before .before .before .sta3 .ensures) (c .lower24 .ensures)))
 
 same-length-121 : tie.Need-same-length-121
 same-length-121 c = search needs
@@ -1165,7 +1165,7 @@ same-length-122 : tie.Need-same-length-122
 same-length-122 c = search needs
 
 returns-90 : tie.Need-returns-90
-returns-90 c = laws.arm 86 _ _ (omega arith) (omega arith) (c .before .before .before .before .before .match .keys87) (laws.on-return _ _ _ _ (laws.dei-is _ _ _ (c .before .before .before .before .before .before .wrapping-add-u16 .ensures) (c .before .before .dei3 .ensures)))
+returns-90 c = laws.arm 86 _ _ tt tt (c .before .before .before .before .before .match .keys87) (laws.on-return _ _ _ _ (laws.pure-is _ _ _ (c .before .before .before .before .before .before .wrapping-add-u16 .ensures) laws.Pure.dei (c .before .before .dei3 .ensures)))
 
 same-length-123 : tie.Need-same-length-123
 same-length-123 c = search needs
@@ -1174,55 +1174,55 @@ same-length-124 : tie.Need-same-length-124
 same-length-124 c = search needs
 
 returns-91 : tie.Need-returns-91
-returns-91 c = laws.arm 87 _ _ (omega arith) (omega arith) (c .before .before .before .before .before .before .match .keys88) (laws.on-return _ _ _ _ (laws.deo-is _ _ _ (c .before .before .before .before .before .before .before .wrapping-add-u16 .ensures) (c .before .before .before .deo3 .ensures) (c .lower25 .ensures)))
+returns-91 c = laws.arm 87 _ _ tt tt (c .before .before .before .before .before .before .match .keys88) (laws.on-return _ _ _ _ (laws.deo-is _ _ _ (c .before .before .before .before .before .before .before .wrapping-add-u16 .ensures) (c .before .before .before .deo3 .ensures) (c .lower25 .ensures)))
 
 same-length-125 : tie.Need-same-length-125
 same-length-125 c = search needs
 
 returns-92 : tie.Need-returns-92
-returns-92 c = laws.arm 88 _ _ (omega arith) (omega arith) (c .before .before .before .before .match .keys89) (laws.on-return _ _ _ _ (laws.pure-is _ _ _ (c .before .before .before .before .before .wrapping-add-u16 .ensures) laws.Pure.computing (c .before .before .compute15 .ensures)))
+returns-92 c = laws.arm 88 _ _ tt tt (c .before .before .before .before .match .keys89) (laws.on-return _ _ _ _ (laws.pure-is _ _ _ (c .before .before .before .before .before .wrapping-add-u16 .ensures) laws.Pure.computing (c .before .before .compute15 .ensures)))
 
 same-length-126 : tie.Need-same-length-126
 same-length-126 c = search needs
 
 returns-93 : tie.Need-returns-93
-returns-93 c = laws.arm 89 _ _ (omega arith) (omega arith) (c .before .before .before .before .match .keys90) (laws.on-return _ _ _ _ (laws.pure-is _ _ _ (c .before .before .before .before .before .wrapping-add-u16 .ensures) laws.Pure.computing (c .before .before .compute16 .ensures)))
+returns-93 c = laws.arm 89 _ _ tt tt (c .before .before .before .before .match .keys90) (laws.on-return _ _ _ _ (laws.pure-is _ _ _ (c .before .before .before .before .before .wrapping-add-u16 .ensures) laws.Pure.computing (c .before .before .compute16 .ensures)))
 
 same-length-127 : tie.Need-same-length-127
 same-length-127 c = search needs
 
 returns-94 : tie.Need-returns-94
-returns-94 c = laws.arm 90 _ _ (omega arith) (omega arith) (c .before .before .before .before .match .keys91) (laws.on-return _ _ _ _ (laws.pure-is _ _ _ (c .before .before .before .before .before .wrapping-add-u16 .ensures) laws.Pure.computing (c .before .before .compute17 .ensures)))
+returns-94 c = laws.arm 90 _ _ tt tt (c .before .before .before .before .match .keys91) (laws.on-return _ _ _ _ (laws.pure-is _ _ _ (c .before .before .before .before .before .wrapping-add-u16 .ensures) laws.Pure.computing (c .before .before .compute17 .ensures)))
 
 same-length-128 : tie.Need-same-length-128
 same-length-128 c = search needs
 
 returns-95 : tie.Need-returns-95
-returns-95 c = laws.arm 91 _ _ (omega arith) (omega arith) (c .before .before .before .before .match .keys92) (laws.on-return _ _ _ _ (laws.pure-is _ _ _ (c .before .before .before .before .before .wrapping-add-u16 .ensures) laws.Pure.computing (c .before .before .compute18 .ensures)))
+returns-95 c = laws.arm 91 _ _ tt tt (c .before .before .before .before .match .keys92) (laws.on-return _ _ _ _ (laws.pure-is _ _ _ (c .before .before .before .before .before .wrapping-add-u16 .ensures) laws.Pure.computing (c .before .before .compute18 .ensures)))
 
 same-length-129 : tie.Need-same-length-129
 same-length-129 c = search needs
 
 returns-96 : tie.Need-returns-96
-returns-96 c = laws.arm 92 _ _ (omega arith) (omega arith) (c .before .before .before .before .match .keys93) (laws.on-return _ _ _ _ (laws.pure-is _ _ _ (c .before .before .before .before .before .wrapping-add-u16 .ensures) laws.Pure.computing (c .before .before .compute19 .ensures)))
+returns-96 c = laws.arm 92 _ _ tt tt (c .before .before .before .before .match .keys93) (laws.on-return _ _ _ _ (laws.pure-is _ _ _ (c .before .before .before .before .before .wrapping-add-u16 .ensures) laws.Pure.computing (c .before .before .compute19 .ensures)))
 
 same-length-130 : tie.Need-same-length-130
 same-length-130 c = search needs
 
 returns-97 : tie.Need-returns-97
-returns-97 c = laws.arm 93 _ _ (omega arith) (omega arith) (c .before .before .before .before .match .keys94) (laws.on-return _ _ _ _ (laws.pure-is _ _ _ (c .before .before .before .before .before .wrapping-add-u16 .ensures) laws.Pure.computing (c .before .before .compute20 .ensures)))
+returns-97 c = laws.arm 93 _ _ tt tt (c .before .before .before .before .match .keys94) (laws.on-return _ _ _ _ (laws.pure-is _ _ _ (c .before .before .before .before .before .wrapping-add-u16 .ensures) laws.Pure.computing (c .before .before .compute20 .ensures)))
 
 same-length-131 : tie.Need-same-length-131
 same-length-131 c = search needs
 
 returns-98 : tie.Need-returns-98
-returns-98 c = laws.arm 94 _ _ (omega arith) (omega arith) (c .before .before .before .before .match .keys95) (laws.on-return _ _ _ _ (laws.pure-is _ _ _ (c .before .before .before .before .before .wrapping-add-u16 .ensures) laws.Pure.computing (c .before .before .compute21 .ensures)))
+returns-98 c = laws.arm 94 _ _ tt tt (c .before .before .before .before .match .keys95) (laws.on-return _ _ _ _ (laws.pure-is _ _ _ (c .before .before .before .before .before .wrapping-add-u16 .ensures) laws.Pure.computing (c .before .before .compute21 .ensures)))
 
 same-length-132 : tie.Need-same-length-132
 same-length-132 c = search needs
 
 returns-99 : tie.Need-returns-99
-returns-99 c = laws.arm 95 _ _ (omega arith) (omega arith) (c .before .before .before .before .match .keys96) (laws.on-return _ _ _ _ (laws.pure-is _ _ _ (c .before .before .before .before .before .wrapping-add-u16 .ensures) laws.Pure.sft (c .before .before .sft3 .ensures)))
+returns-99 c = laws.arm 95 _ _ tt tt (c .before .before .before .before .match .keys96) (laws.on-return _ _ _ _ (laws.pure-is _ _ _ (c .before .before .before .before .before .wrapping-add-u16 .ensures) laws.Pure.sft (c .before .before .sft3 .ensures)))
 
 same-length-133 : tie.Need-same-length-133
 same-length-133 c = search needs
@@ -1231,7 +1231,7 @@ same-length-134 : tie.Need-same-length-134
 same-length-134 c = search needs
 
 returns-100 : tie.Need-returns-100
-returns-100 c = laws.lit-return true _ (c .before .before .before .before .before .before .before .match .keys97) (c .before .before .before .before .before .before .if4 .taken) (c .before .before .before .before .before .wrapping-add-u165 .ensures) (c .before .before .lit4 .ensures)
+returns-100 c = laws.lit-is true true _ (c .before .before .before .before .before .before .before .match .keys97) (c .before .before .before .before .before .before .if4 .taken) (c .before .before .before .before .before .wrapping-add-u165 .ensures) (c .before .before .lit4 .ensures)
 
 same-length-135 : tie.Need-same-length-135
 same-length-135 c = search needs
@@ -1246,79 +1246,79 @@ same-length-137 : tie.Need-same-length-137
 same-length-137 c = search needs
 
 returns-102 : tie.Need-returns-102
-returns-102 c = laws.arm 97 _ _ (omega arith) (omega arith) (c .before .before .before .before .match .keys98) (laws.on-return _ _ _ _ (laws.pure-is _ _ _ (c .before .before .before .before .before .wrapping-add-u16 .ensures) laws.Pure.inc (c .before .before .inc4 .ensures)))
+returns-102 c = laws.arm 97 _ _ tt tt (c .before .before .before .before .match .keys98) (laws.on-return _ _ _ _ (laws.pure-is _ _ _ (c .before .before .before .before .before .wrapping-add-u16 .ensures) laws.Pure.inc (c .before .before .inc4 .ensures)))
 
 same-length-138 : tie.Need-same-length-138
 same-length-138 c = search needs
 
 returns-103 : tie.Need-returns-103
-returns-103 c = laws.arm 98 _ _ (omega arith) (omega arith) (c .before .before .match .keys99) (laws.on-return _ _ _ _ (laws.pure-is _ _ _ (c .before .before .before .wrapping-add-u16 .ensures) laws.Pure.pop (c .pop4 .ensures)))
+returns-103 c = laws.arm 98 _ _ tt tt (c .before .before .match .keys99) (laws.on-return _ _ _ _ (laws.pure-is _ _ _ (c .before .before .before .wrapping-add-u16 .ensures) laws.Pure.pop (c .pop4 .ensures)))
 
 same-length-139 : tie.Need-same-length-139
 same-length-139 c = search needs
 
 returns-104 : tie.Need-returns-104
-returns-104 c = laws.arm 99 _ _ (omega arith) (omega arith) (c .before .before .before .before .match .keys100) (laws.on-return _ _ _ _ (laws.pure-is _ _ _ (c .before .before .before .before .before .wrapping-add-u16 .ensures) laws.Pure.nip (c .before .before .nip4 .ensures)))
+returns-104 c = laws.arm 99 _ _ tt tt (c .before .before .before .before .match .keys100) (laws.on-return _ _ _ _ (laws.pure-is _ _ _ (c .before .before .before .before .before .wrapping-add-u16 .ensures) laws.Pure.nip (c .before .before .nip4 .ensures)))
 
 same-length-140 : tie.Need-same-length-140
 same-length-140 c = search needs
 
 returns-105 : tie.Need-returns-105
-returns-105 c = laws.arm 100 _ _ (omega arith) (omega arith) (c .before .before .before .before .match .keys101) (laws.on-return _ _ _ _ (laws.pure-is _ _ _ (c .before .before .before .before .before .wrapping-add-u16 .ensures) laws.Pure.swp (c .before .before .swp4 .ensures)))
+returns-105 c = laws.arm 100 _ _ tt tt (c .before .before .before .before .match .keys101) (laws.on-return _ _ _ _ (laws.pure-is _ _ _ (c .before .before .before .before .before .wrapping-add-u16 .ensures) laws.Pure.swp (c .before .before .swp4 .ensures)))
 
 same-length-141 : tie.Need-same-length-141
 same-length-141 c = search needs
 
 returns-106 : tie.Need-returns-106
-returns-106 c = laws.arm 101 _ _ (omega arith) (omega arith) (c .before .before .before .before .match .keys102) (laws.on-return _ _ _ _ (laws.pure-is _ _ _ (c .before .before .before .before .before .wrapping-add-u16 .ensures) laws.Pure.rot (c .before .before .rot4 .ensures)))
+returns-106 c = laws.arm 101 _ _ tt tt (c .before .before .before .before .match .keys102) (laws.on-return _ _ _ _ (laws.pure-is _ _ _ (c .before .before .before .before .before .wrapping-add-u16 .ensures) laws.Pure.rot (c .before .before .rot4 .ensures)))
 
 same-length-142 : tie.Need-same-length-142
 same-length-142 c = search needs
 
 returns-107 : tie.Need-returns-107
-returns-107 c = laws.arm 102 _ _ (omega arith) (omega arith) (c .before .before .before .before .match .keys103) (laws.on-return _ _ _ _ (laws.pure-is _ _ _ (c .before .before .before .before .before .wrapping-add-u16 .ensures) laws.Pure.dup (c .before .before .dup4 .ensures)))
+returns-107 c = laws.arm 102 _ _ tt tt (c .before .before .before .before .match .keys103) (laws.on-return _ _ _ _ (laws.pure-is _ _ _ (c .before .before .before .before .before .wrapping-add-u16 .ensures) laws.Pure.dup (c .before .before .dup4 .ensures)))
 
 same-length-143 : tie.Need-same-length-143
 same-length-143 c = search needs
 
 returns-108 : tie.Need-returns-108
-returns-108 c = laws.arm 103 _ _ (omega arith) (omega arith) (c .before .before .before .before .match .keys104) (laws.on-return _ _ _ _ (laws.pure-is _ _ _ (c .before .before .before .before .before .wrapping-add-u16 .ensures) laws.Pure.ovr (c .before .before .ovr4 .ensures)))
+returns-108 c = laws.arm 103 _ _ tt tt (c .before .before .before .before .match .keys104) (laws.on-return _ _ _ _ (laws.pure-is _ _ _ (c .before .before .before .before .before .wrapping-add-u16 .ensures) laws.Pure.ovr (c .before .before .ovr4 .ensures)))
 
 same-length-144 : tie.Need-same-length-144
 same-length-144 c = search needs
 
 returns-109 : tie.Need-returns-109
-returns-109 c = laws.arm 104 _ _ (omega arith) (omega arith) (c .before .before .before .before .match .keys105) (laws.on-return _ _ _ _ (laws.pure-is _ _ _ (c .before .before .before .before .before .wrapping-add-u16 .ensures) laws.Pure.comparing (c .before .before .compare13 .ensures)))
+returns-109 c = laws.arm 104 _ _ tt tt (c .before .before .before .before .match .keys105) (laws.on-return _ _ _ _ (laws.pure-is _ _ _ (c .before .before .before .before .before .wrapping-add-u16 .ensures) laws.Pure.comparing (c .before .before .compare13 .ensures)))
 
 same-length-145 : tie.Need-same-length-145
 same-length-145 c = search needs
 
 returns-110 : tie.Need-returns-110
-returns-110 c = laws.arm 105 _ _ (omega arith) (omega arith) (c .before .before .before .before .match .keys106) (laws.on-return _ _ _ _ (laws.pure-is _ _ _ (c .before .before .before .before .before .wrapping-add-u16 .ensures) laws.Pure.comparing (c .before .before .compare14 .ensures)))
+returns-110 c = laws.arm 105 _ _ tt tt (c .before .before .before .before .match .keys106) (laws.on-return _ _ _ _ (laws.pure-is _ _ _ (c .before .before .before .before .before .wrapping-add-u16 .ensures) laws.Pure.comparing (c .before .before .compare14 .ensures)))
 
 same-length-146 : tie.Need-same-length-146
 same-length-146 c = search needs
 
 returns-111 : tie.Need-returns-111
-returns-111 c = laws.arm 106 _ _ (omega arith) (omega arith) (c .before .before .before .before .match .keys107) (laws.on-return _ _ _ _ (laws.pure-is _ _ _ (c .before .before .before .before .before .wrapping-add-u16 .ensures) laws.Pure.comparing (c .before .before .compare15 .ensures)))
+returns-111 c = laws.arm 106 _ _ tt tt (c .before .before .before .before .match .keys107) (laws.on-return _ _ _ _ (laws.pure-is _ _ _ (c .before .before .before .before .before .wrapping-add-u16 .ensures) laws.Pure.comparing (c .before .before .compare15 .ensures)))
 
 same-length-147 : tie.Need-same-length-147
 same-length-147 c = search needs
 
 returns-112 : tie.Need-returns-112
-returns-112 c = laws.arm 107 _ _ (omega arith) (omega arith) (c .before .before .before .before .match .keys108) (laws.on-return _ _ _ _ (laws.pure-is _ _ _ (c .before .before .before .before .before .wrapping-add-u16 .ensures) laws.Pure.comparing (c .before .before .compare16 .ensures)))
+returns-112 c = laws.arm 107 _ _ tt tt (c .before .before .before .before .match .keys108) (laws.on-return _ _ _ _ (laws.pure-is _ _ _ (c .before .before .before .before .before .wrapping-add-u16 .ensures) laws.Pure.comparing (c .before .before .compare16 .ensures)))
 
 same-length-148 : tie.Need-same-length-148
 same-length-148 c = search needs
 
 returns-113 : tie.Need-returns-113
-returns-113 c = laws.arm 108 _ _ (omega arith) (omega arith) (c .before .before .before .match .keys109) (laws.on-return _ _ _ _ (laws.jmp-is _ _ _ (c .before .before .before .before .wrapping-add-u16 .ensures) (c .before .jmp7 .ensures) (c .lower26 .ensures)))
+returns-113 c = laws.arm 108 _ _ tt tt (c .before .before .before .match .keys109) (laws.on-return _ _ _ _ (laws.jmp-is _ _ _ (c .before .before .before .before .wrapping-add-u16 .ensures) (c .before .jmp7 .ensures) (c .lower26 .ensures)))
 
 same-length-149 : tie.Need-same-length-149
 same-length-149 c = search needs
 
 returns-114 : tie.Need-returns-114
-returns-114 c = laws.arm 109 _ _ (omega arith) (omega arith) (c .before .before .before .match .keys110) (laws.on-return _ _ _ _ (laws.jcn-is _ _ _ (c .before .before .before .before .wrapping-add-u16 .ensures) (c .before .jcn4 .ensures) (c .lower27 .ensures)))
+returns-114 c = laws.arm 109 _ _ tt tt (c .before .before .before .match .keys110) (laws.on-return _ _ _ _ (laws.jcn-is _ _ _ (c .before .before .before .before .wrapping-add-u16 .ensures) (c .before .jcn4 .ensures) (c .lower27 .ensures)))
 
 same-length-150 : tie.Need-same-length-150
 same-length-150 c = search needs
@@ -1327,7 +1327,7 @@ same-length-151 : tie.Need-same-length-151
 same-length-151 c = search needs
 
 returns-115 : tie.Need-returns-115
-returns-115 c = laws.arm 110 _ _ (omega arith) (omega arith) (c .before .before .before .before .before .before .before .match .keys111) (laws.on-return _ _ _ _ (laws.jsr-is _ _ _ (c .before .before .before .before .before .before .before .before .wrapping-add-u16 .ensures) (c .before .before .before .before .before .jmp8 .ensures) (c .before .before .before .push5 .ensures) (c .lower28 .ensures)))
+returns-115 c = laws.arm 110 _ _ tt tt (c .before .before .before .before .before .before .before .match .keys111) (laws.on-return _ _ _ _ (laws.jsr-is _ _ _ (c .before .before .before .before .before .before .before .before .wrapping-add-u16 .ensures) (c .before .before .before .before .before .jmp8 .ensures) (c .before .before .before .push5 .ensures) (c .lower28 .ensures)))
 
 same-length-152 : tie.Need-same-length-152
 same-length-152 c = search needs
@@ -1336,7 +1336,7 @@ same-length-153 : tie.Need-same-length-153
 same-length-153 c = search needs
 
 returns-116 : tie.Need-returns-116
-returns-116 c = laws.arm 111 _ _ (omega arith) (omega arith) (c .before .before .before .before .before .before .match .keys112) (laws.on-return _ _ _ _ (laws.sth-is _ _ _ (c .before .before .before .before .before .before .before .wrapping-add-u16 .ensures) (c .before .before .before .sth4 .ensures) (c .lower29 .ensures)))
+returns-116 c = laws.arm 111 _ _ tt tt (c .before .before .before .before .before .before .match .keys112) (laws.on-return _ _ _ _ (laws.sth-is _ _ _ (c .before .before .before .before .before .before .before .wrapping-add-u16 .ensures) (c .before .before .before .sth4 .ensures) (c .lower29 .ensures)))
 
 same-length-154 : tie.Need-same-length-154
 same-length-154 c = search needs
@@ -1345,7 +1345,7 @@ same-length-155 : tie.Need-same-length-155
 same-length-155 c = search needs
 
 returns-117 : tie.Need-returns-117
-returns-117 c = laws.arm 112 _ _ (omega arith) (omega arith) (c .before .before .before .before .before .match .keys113) (laws.on-return _ _ _ _ (laws.ldz-is _ _ _ (c .before .before .before .before .before .before .wrapping-add-u16 .ensures) (c .before .before .ldz4 .ensures)))
+returns-117 c = laws.arm 112 _ _ tt tt (c .before .before .before .before .before .match .keys113) (laws.on-return _ _ _ _ (laws.pure-is _ _ _ (c .before .before .before .before .before .before .wrapping-add-u16 .ensures) laws.Pure.ldz (c .before .before .ldz4 .ensures)))
 
 same-length-156 : tie.Need-same-length-156
 same-length-156 c = search needs
@@ -1354,7 +1354,7 @@ same-length-157 : tie.Need-same-length-157
 same-length-157 c = search needs
 
 returns-118 : tie.Need-returns-118
-returns-118 c = laws.arm 113 _ _ (omega arith) (omega arith) (c .before .before .before .before .before .before .match .keys114) (laws.on-return _ _ _ _ (laws.stz-is _ _ _ (c .before .before .before .before .before .before .before .wrapping-add-u16 .ensures) (c .before .before .before .stz4 .ensures) (c .lower30 .ensures)))
+returns-118 c = laws.arm 113 _ _ tt tt (c .before .before .before .before .before .before .match .keys114) (laws.on-return _ _ _ _ (laws.store-is _ _ _ (c .before .before .before .before .before .before .before .wrapping-add-u16 .ensures) laws.Stores.stz (c .before .before .before .stz4 .ensures) (c .lower30 .ensures)))
 
 same-length-158 : tie.Need-same-length-158
 same-length-158 c = search needs
@@ -1363,7 +1363,7 @@ same-length-159 : tie.Need-same-length-159
 same-length-159 c = search needs
 
 returns-119 : tie.Need-returns-119
-returns-119 c = laws.arm 114 _ _ (omega arith) (omega arith) (c .before .before .before .before .before .match .keys115) (laws.on-return _ _ _ _ (laws.ldr-is _ _ _ (c .before .before .before .before .before .before .wrapping-add-u16 .ensures) (c .before .before .ldr4 .ensures)))
+returns-119 c = laws.arm 114 _ _ tt tt (c .before .before .before .before .before .match .keys115) (laws.on-return _ _ _ _ (laws.pure-is _ _ _ (c .before .before .before .before .before .before .wrapping-add-u16 .ensures) laws.Pure.ldr (c .before .before .ldr4 .ensures)))
 
 same-length-160 : tie.Need-same-length-160
 same-length-160 c = search needs
@@ -1372,7 +1372,7 @@ same-length-161 : tie.Need-same-length-161
 same-length-161 c = search needs
 
 returns-120 : tie.Need-returns-120
-returns-120 c = laws.arm 115 _ _ (omega arith) (omega arith) (c .before .before .before .before .before .before .match .keys116) (laws.on-return _ _ _ _ (laws.str-is _ _ _ (c .before .before .before .before .before .before .before .wrapping-add-u16 .ensures) (c .before .before .before .str4 .ensures) (c .lower31 .ensures)))
+returns-120 c = laws.arm 115 _ _ tt tt (c .before .before .before .before .before .before .match .keys116) (laws.on-return _ _ _ _ (laws.store-is _ _ _ (c .before .before .before .before .before .before .before .wrapping-add-u16 .ensures) laws.Stores.str (c .before .before .before .str4 .ensures) (c .lower31 .ensures)))
 
 same-length-162 : tie.Need-same-length-162
 same-length-162 c = search needs
@@ -1381,7 +1381,7 @@ same-length-163 : tie.Need-same-length-163
 same-length-163 c = search needs
 
 returns-121 : tie.Need-returns-121
-returns-121 c = laws.arm 116 _ _ (omega arith) (omega arith) (c .before .before .before .before .before .match .keys117) (laws.on-return _ _ _ _ (laws.lda-is _ _ _ (c .before .before .before .before .before .before .wrapping-add-u16 .ensures) (c .before .before .lda4 .ensures)))
+returns-121 c = laws.arm 116 _ _ tt tt (c .before .before .before .before .before .match .keys117) (laws.on-return _ _ _ _ (laws.pure-is _ _ _ (c .before .before .before .before .before .before .wrapping-add-u16 .ensures) laws.Pure.lda (c .before .before .lda4 .ensures)))
 
 same-length-164 : tie.Need-same-length-164
 same-length-164 c = search needs
@@ -1390,7 +1390,7 @@ same-length-165 : tie.Need-same-length-165
 same-length-165 c = search needs
 
 returns-122 : tie.Need-returns-122
-returns-122 c = laws.arm 117 _ _ (omega arith) (omega arith) (c .before .before .before .before .before .before .match .keys118) (laws.on-return _ _ _ _ (laws.sta-is _ _ _ (c .before .before .before .before .before .before .before .wrapping-add-u16 .ensures) (c .before .before .before .sta4 .ensures) (c .lower32 .ensures)))
+returns-122 c = laws.arm 117 _ _ tt tt (c .before .before .before .before .before .before .match .keys118) (laws.on-return _ _ _ _ (laws.store-is _ _ _ (c .before .before .before .before .before .before .before .wrapping-add-u16 .ensures) laws.Stores.sta (c .before .before .before .sta4 .ensures) (c .lower32 .ensures)))
 
 same-length-166 : tie.Need-same-length-166
 same-length-166 c = search needs
@@ -1399,7 +1399,7 @@ same-length-167 : tie.Need-same-length-167
 same-length-167 c = search needs
 
 returns-123 : tie.Need-returns-123
-returns-123 c = laws.arm 118 _ _ (omega arith) (omega arith) (c .before .before .before .before .before .match .keys119) (laws.on-return _ _ _ _ (laws.dei-is _ _ _ (c .before .before .before .before .before .before .wrapping-add-u16 .ensures) (c .before .before .dei4 .ensures)))
+returns-123 c = laws.arm 118 _ _ tt tt (c .before .before .before .before .before .match .keys119) (laws.on-return _ _ _ _ (laws.pure-is _ _ _ (c .before .before .before .before .before .before .wrapping-add-u16 .ensures) laws.Pure.dei (c .before .before .dei4 .ensures)))
 
 same-length-168 : tie.Need-same-length-168
 same-length-168 c = search needs
@@ -1408,55 +1408,55 @@ same-length-169 : tie.Need-same-length-169
 same-length-169 c = search needs
 
 returns-124 : tie.Need-returns-124
-returns-124 c = laws.arm 119 _ _ (omega arith) (omega arith) (c .before .before .before .before .before .before .match .keys120) (laws.on-return _ _ _ _ (laws.deo-is _ _ _ (c .before .before .before .before .before .before .before .wrapping-add-u16 .ensures) (c .before .before .before .deo4 .ensures) (c .lower33 .ensures)))
+returns-124 c = laws.arm 119 _ _ tt tt (c .before .before .before .before .before .before .match .keys120) (laws.on-return _ _ _ _ (laws.deo-is _ _ _ (c .before .before .before .before .before .before .before .wrapping-add-u16 .ensures) (c .before .before .before .deo4 .ensures) (c .lower33 .ensures)))
 
 same-length-170 : tie.Need-same-length-170
 same-length-170 c = search needs
 
 returns-125 : tie.Need-returns-125
-returns-125 c = laws.arm 120 _ _ (omega arith) (omega arith) (c .before .before .before .before .match .keys121) (laws.on-return _ _ _ _ (laws.pure-is _ _ _ (c .before .before .before .before .before .wrapping-add-u16 .ensures) laws.Pure.computing (c .before .before .compute22 .ensures)))
+returns-125 c = laws.arm 120 _ _ tt tt (c .before .before .before .before .match .keys121) (laws.on-return _ _ _ _ (laws.pure-is _ _ _ (c .before .before .before .before .before .wrapping-add-u16 .ensures) laws.Pure.computing (c .before .before .compute22 .ensures)))
 
 same-length-171 : tie.Need-same-length-171
 same-length-171 c = search needs
 
 returns-126 : tie.Need-returns-126
-returns-126 c = laws.arm 121 _ _ (omega arith) (omega arith) (c .before .before .before .before .match .keys122) (laws.on-return _ _ _ _ (laws.pure-is _ _ _ (c .before .before .before .before .before .wrapping-add-u16 .ensures) laws.Pure.computing (c .before .before .compute23 .ensures)))
+returns-126 c = laws.arm 121 _ _ tt tt (c .before .before .before .before .match .keys122) (laws.on-return _ _ _ _ (laws.pure-is _ _ _ (c .before .before .before .before .before .wrapping-add-u16 .ensures) laws.Pure.computing (c .before .before .compute23 .ensures)))
 
 same-length-172 : tie.Need-same-length-172
 same-length-172 c = search needs
 
 returns-127 : tie.Need-returns-127
-returns-127 c = laws.arm 122 _ _ (omega arith) (omega arith) (c .before .before .before .before .match .keys123) (laws.on-return _ _ _ _ (laws.pure-is _ _ _ (c .before .before .before .before .before .wrapping-add-u16 .ensures) laws.Pure.computing (c .before .before .compute24 .ensures)))
+returns-127 c = laws.arm 122 _ _ tt tt (c .before .before .before .before .match .keys123) (laws.on-return _ _ _ _ (laws.pure-is _ _ _ (c .before .before .before .before .before .wrapping-add-u16 .ensures) laws.Pure.computing (c .before .before .compute24 .ensures)))
 
 same-length-173 : tie.Need-same-length-173
 same-length-173 c = search needs
 
 returns-128 : tie.Need-returns-128
-returns-128 c = laws.arm 123 _ _ (omega arith) (omega arith) (c .before .before .before .before .match .keys124) (laws.on-return _ _ _ _ (laws.pure-is _ _ _ (c .before .before .before .before .before .wrapping-add-u16 .ensures) laws.Pure.computing (c .before .before .compute25 .ensures)))
+returns-128 c = laws.arm 123 _ _ tt tt (c .before .before .before .before .match .keys124) (laws.on-return _ _ _ _ (laws.pure-is _ _ _ (c .before .before .before .before .before .wrapping-add-u16 .ensures) laws.Pure.computing (c .before .before .compute25 .ensures)))
 
 same-length-174 : tie.Need-same-length-174
 same-length-174 c = search needs
 
 returns-129 : tie.Need-returns-129
-returns-129 c = laws.arm 124 _ _ (omega arith) (omega arith) (c .before .before .before .before .match .keys125) (laws.on-return _ _ _ _ (laws.pure-is _ _ _ (c .before .before .before .before .before .wrapping-add-u16 .ensures) laws.Pure.computing (c .before .before .compute26 .ensures)))
+returns-129 c = laws.arm 124 _ _ tt tt (c .before .before .before .before .match .keys125) (laws.on-return _ _ _ _ (laws.pure-is _ _ _ (c .before .before .before .before .before .wrapping-add-u16 .ensures) laws.Pure.computing (c .before .before .compute26 .ensures)))
 
 same-length-175 : tie.Need-same-length-175
 same-length-175 c = search needs
 
 returns-130 : tie.Need-returns-130
-returns-130 c = laws.arm 125 _ _ (omega arith) (omega arith) (c .before .before .before .before .match .keys126) (laws.on-return _ _ _ _ (laws.pure-is _ _ _ (c .before .before .before .before .before .wrapping-add-u16 .ensures) laws.Pure.computing (c .before .before .compute27 .ensures)))
+returns-130 c = laws.arm 125 _ _ tt tt (c .before .before .before .before .match .keys126) (laws.on-return _ _ _ _ (laws.pure-is _ _ _ (c .before .before .before .before .before .wrapping-add-u16 .ensures) laws.Pure.computing (c .before .before .compute27 .ensures)))
 
 same-length-176 : tie.Need-same-length-176
 same-length-176 c = search needs
 
 returns-131 : tie.Need-returns-131
-returns-131 c = laws.arm 126 _ _ (omega arith) (omega arith) (c .before .before .before .before .match .keys127) (laws.on-return _ _ _ _ (laws.pure-is _ _ _ (c .before .before .before .before .before .wrapping-add-u16 .ensures) laws.Pure.computing (c .before .before .compute28 .ensures)))
+returns-131 c = laws.arm 126 _ _ tt tt (c .before .before .before .before .match .keys127) (laws.on-return _ _ _ _ (laws.pure-is _ _ _ (c .before .before .before .before .before .wrapping-add-u16 .ensures) laws.Pure.computing (c .before .before .compute28 .ensures)))
 
 same-length-177 : tie.Need-same-length-177
 same-length-177 c = search needs
 
 returns-132 : tie.Need-returns-132
-returns-132 c = laws.arm 127 _ _ (omega arith) (omega arith) (laws.last-key 127 _ (c .before .before .before .before .match .rest) (omega arith)) (laws.on-return _ _ _ _ (laws.pure-is _ _ _ (c .before .before .before .before .before .wrapping-add-u16 .ensures) laws.Pure.sft (c .before .before .sft4 .ensures)))
+returns-132 c = laws.arm 127 _ _ tt tt (laws.last-key 127 _ (c .before .before .before .before .match .rest) (omega arith)) (laws.on-return _ _ _ _ (laws.pure-is _ _ _ (c .before .before .before .before .before .wrapping-add-u16 .ensures) laws.Pure.sft (c .before .before .sft4 .ensures)))
 
 pub execute-spec : {M : Type 1} → statement M
 execute-spec =

@@ -1,11 +1,14 @@
 -- `operations::jmp` meets its contract. Assumes nothing.
 use Rattle.operations.proofs.Operations as laws
+use Rattle.model.specs.Instruction.Op.{JMP}
+use Rattle.operations.proofs.Operands as took
 use borrow.Author.Needs.{needs}
 use Rattle.operations.proofs.jmp.Statement.{statement}
 use Rattle.operations.proofs.jmp.Tie as tie
 
 returns : tie.Need-returns
-returns c = laws.jmp-is _ _ _ _ (c .before .before .size-of .ensures .0) _ (c .before .operands .ensures) (c .address .ensures)
+unfolding laws.tables
+returns c = rw (laws.effect-is _ _ _ _ JMP _ _ _ _ (took.read-one _ _ _ (c .before .before .size-of .ensures .0) (c .before .operands .ensures))) (c .address .ensures)
 
 pub jmp-spec : {M : Type 1} → statement M
 jmp-spec =

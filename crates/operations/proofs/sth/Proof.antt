@@ -1,11 +1,16 @@
 -- `operations::sth` meets its contract. Assumes nothing.
 use Rattle.operations.proofs.Operations as laws
+use Rattle.model.specs.Instruction.Op.{STH}
+use Rattle.operations.proofs.Operands as took
+use mathlib.Core.List.{[]}
+use Rattle.model.specs.Step.{otherAfter}
 use borrow.Author.Needs.{needs}
 use Rattle.operations.proofs.sth.Statement.{statement}
 use Rattle.operations.proofs.sth.Tie as tie
 
 returns : tie.Need-returns
-returns c = laws.sth-is _ _ _ _ (c .before .before .before .before .before .size-of .ensures .0) _ (c .before .before .before .before .operands .ensures) (c .before .before .push .ensures)
+unfolding otherAfter laws.tables
+returns c = rw (laws.effect-is _ _ _ _ STH _ _ _ _ (took.read-one _ _ _ (c .before .before .before .before .before .size-of .ensures .0) (c .before .before .before .before .operands .ensures))) (took.push-one _ [] [] _ (c .before .before .push .ensures))
 
 pub sth-spec : {M : Type 1} → statement M
 sth-spec =

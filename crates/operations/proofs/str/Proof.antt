@@ -1,11 +1,16 @@
 -- `operations::str` meets its contract. Assumes nothing.
 use Rattle.operations.proofs.Operations as laws
+use Rattle.model.specs.Instruction.Op.{STR}
+use Rattle.operations.proofs.Operands as took
+use mathlib.Core.Path.{refl}
+use Rattle.model.specs.Step.{written}
 use borrow.Author.Needs.{needs}
 use Rattle.operations.proofs.str.Statement.{statement}
 use Rattle.operations.proofs.str.Tie as tie
 
 returns : tie.Need-returns
-returns c = laws.str-is _ _ _ _ (c .before .before .before .before .before .before .size-of .ensures .0) _ _ _ (c .before .before .before .before .before .operands .ensures) (c .before .before .before .relative .ensures) (c .before .before .store .ensures)
+unfolding written laws.tables
+returns c = rw (laws.effect-is _ _ _ _ STR _ _ _ _ (took.read-two _ _ _ 1 1 (c .before .before .before .before .before .before .size-of .ensures .0) refl (c .before .before .before .before .before .operands .ensures)), ← c .before .before .before .relative .ensures) (c .before .before .store .ensures)
 
 pub str-spec : {M : Type 1} → statement M
 str-spec =

@@ -1,11 +1,16 @@
 -- `operations::stz` meets its contract. Assumes nothing.
 use Rattle.operations.proofs.Operations as laws
+use Rattle.model.specs.Instruction.Op.{STZ}
+use Rattle.operations.proofs.Operands as took
+use mathlib.Core.Path.{refl}
+use Rattle.model.specs.Step.{written}
 use borrow.Author.Needs.{needs}
 use Rattle.operations.proofs.stz.Statement.{statement}
 use Rattle.operations.proofs.stz.Tie as tie
 
 returns : tie.Need-returns
-returns c = laws.stz-is _ _ _ _ (c .before .before .before .before .before .size-of .ensures .0) _ (c .before .before .before .before .operands .ensures) (c .before .before .store-zero-page .ensures)
+unfolding written laws.tables
+returns c = rw (laws.effect-is _ _ _ _ STZ _ _ _ _ (took.read-two _ _ _ 1 1 (c .before .before .before .before .before .size-of .ensures .0) refl (c .before .before .before .before .operands .ensures))) (c .before .before .store-zero-page .ensures)
 
 pub stz-spec : {M : Type 1} → statement M
 stz-spec =
