@@ -1,26 +1,70 @@
 -- The cases of document 01, by computation. Assumes nothing.
 use mathlib.Core.Path.{_≡_, refl}
-use mathlib.Core.Bool.{true, false}
-use lib.Dec.{T}
+use mathlib.Core.Bool.{Bool, true, false, not, _&&_, _||_}
+use mathlib.Core.List.{List, [], _∷_}
+use Prim.Native.Nat.{ℕ}
+use lib.Dec.{T, ltb}
+use lib.ListN.{length, length-replicate}
 use Rattle.model.specs.Bytes.{zeros}
+use Rattle.model.specs.Machine.{memorySize, pageSize, stackSize, Sized}
 use Rattle.model.specs.Step.{popWraps, pushWraps, stackWraps}
+use Rattle.model.specs.Run.{run}
 use Rattle.model.specs.Run.Answer.{Admitted}
-use Rattle.model.specs.Calls.{admitCall}
-use Rattle.model.specs.Cases.{claimed, allClaimed, used, loadAndRun, allHold, starred, mistakes, example, exampleSheet, depthsFine, depthsNot, depthsAre, numbered, agree, summing, framesSeen, vectored, eventsSeen, wrapping, notWrapping, wrapsAre}
+use Rattle.model.specs.Calls.{hasLength, unless, loadMost, load, loadCall, admitCall}
+use Rattle.model.specs.Cases.{Case, claimed, allClaimed, used, loadAndRun, allHold, starred, mistakes, example, exampleSheet, depthsFine, depthsNot, depthsAre, numbered, agree, summing, framesSeen, vectored, eventsSeen, wrapping, notWrapping, wrapsAre}
+use Rattle.model.proofs.Tests.{and-left, and-right, and-both, is-true, not-true}
+use Rattle.model.proofs.Numbers.{load-right, load-passed, load-sized, run-passed}
 use Rattle.model.proofs.Computing.{stepping, admitting, calling}
+
+-- ---- a load and a run: neither is refused, so that only the run is to be computed
+
+-- the program is not refused with 5
+abbrev fits : List ℕ → Bool
+fits program = not (hasLength program 0 || ltb loadMost (length program))
+
+used-sized : Sized used
+unfolding used
+used-sized =
+    record {
+      memory = length-replicate {A = ℕ} memorySize 0xAA;
+      devices = length-replicate {A = ℕ} pageSize 0xAA;
+      work = length-replicate {A = ℕ} stackSize 0xAA;
+      ret = length-replicate {A = ℕ} stackSize 0xAA;
+    }
+
+only-run : (program : List ℕ) (budget : ℕ) → T (fits program) → loadAndRun program budget ≡ run budget (load program)
+unfolding loadAndRun loadCall unless
+only-run program budget t =
+    let e = load-passed program used used-sized (not-true _ t) in
+    rw (e, unless) (run-passed budget (load program) (load-sized program (load-right program used e .1)))
+
+abbrev computed : List Case → Bool
+computed [] = true
+computed (c ∷ cs) = fits (c .program) && (allClaimed (c .program) (run (c .budget) (load (c .program))) (c .claims) && computed cs)
+
+all-hold : (cs : List Case) → T (computed cs) → T (allHold cs)
+unfolding allHold
+all-hold [] t = tt
+all-hold (c ∷ cs) t =
+    let claims = allClaimed (c .program) (run (c .budget) (load (c .program))) (c .claims) in
+    let u = and-right (fits (c .program)) (claims && computed cs) t in
+    rw (only-run (c .program) (c .budget) (and-left (fits (c .program)) _ t))
+    (and-both claims (allHold cs) (and-left claims (computed cs) u) (all-hold cs (and-right claims (computed cs) u)))
+
+-- ---- the cases
 
 -- every case marked * in the bench sheet
 pub starred-hold : T (allHold starred)
-unfolding allHold starred allClaimed claimed loadAndRun used calling
-starred-hold = tt
+unfolding starred allClaimed claimed calling
+starred-hold = all-hold starred tt
 
 pub example-sheet : admitCall example (zeros 24) ≡ record { answer = Admitted; sheet = exampleSheet }
 unfolding example exampleSheet calling
 example-sheet = refl
 
 pub mistakes-show : T (allHold mistakes)
-unfolding allHold mistakes allClaimed claimed loadAndRun used calling
-mistakes-show = tt
+unfolding mistakes allClaimed claimed calling
+mistakes-show = all-hold mistakes tt
 
 pub depths-hold : T (depthsAre true depthsFine) × T (depthsAre false depthsNot)
 unfolding depthsAre depthsFine depthsNot admitting

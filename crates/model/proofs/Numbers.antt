@@ -1,16 +1,16 @@
 -- When a call is refused, and what a call that is not refused knows of its arguments. Assumes nothing.
-use mathlib.Core.Path.{_≡_, refl, ap, _∙_}
+use mathlib.Core.Path.{_≡_, refl, sym, ap, _∙_}
 use mathlib.Core.Bool.{Bool, true, false, not, _||_, true≢false}
-use mathlib.Core.List.{List, [], _∷_, _++_}
+use mathlib.Core.List.{List, [], _∷_, _++_, append-nil}
 use Prim.Native.Nat.{ℕ, zero, suc, _≤_}
 use native.Mathlib.Omega.{arith}
-use lib.Dec.{eqb}
-use lib.ListN.{length}
+use lib.Dec.{eqb, ltb}
+use lib.ListN.{length, length-append, length-replicate}
 use borrow.Author.Tests.{eqb-true, eq-eqb, ltb-false, not-false}
 use Rattle.model.specs.Machine.{State, Sized}
 use Rattle.model.specs.Run.{Reply, run, trace}
 use Rattle.model.specs.Run.Answer.{Loaded}
-use Rattle.model.specs.Calls.{Row, refusal, bufferRows, unless, loadMost, loadRows, load, loadCall, frameSize, frameMost, wellFormed, frameRows, framed, withVerdict, frameCall, frameTrace}
+use Rattle.model.specs.Calls.{Row, refusal, hasLength, bufferRows, unless, loadMost, loadRows, load, loadCall, runCall, frameSize, frameMost, wellFormed, frameRows, framed, withVerdict, frameCall, frameTrace}
 use Rattle.model.proofs.Runs.{trace-length}
 
 -- ---- rows
@@ -66,6 +66,24 @@ or-right : (a b : Bool) → (a || b) ≡ false → b ≡ false
 or-right true b e = absurd (true≢false e)
 or-right false b e = e
 
+-- a load that is not refused has four buffers of the right lengths, and a program that has room
+pub load-right : (program : List ℕ) (s : State) → refusal (loadRows program s) ≡ 0 → Sized s × (length program ≤ loadMost)
+unfolding loadRows
+load-right program s e =
+    let b = buffers-right s _ e in
+    (b .0, ltb-false loadMost (length program) (or-right (eqb (length program) 0) _ (none-says 4 _ _ (b .1) .0)))
+
+-- a program of document 01, on buffers of the right lengths, is not refused
+pub load-passed : (program : List ℕ) (s : State) → Sized s → (hasLength program 0 || ltb loadMost (length program)) ≡ false
+    → refusal (loadRows program s) ≡ 0
+unfolding loadRows
+load-passed program s z e = buffers-passed s _ z ∙ passed-over 5 _ [] e ∙ no-rows
+
+pub load-sized : (program : List ℕ) → length program ≤ loadMost → Sized (load program)
+unfolding load
+load-sized program l =
+    record { memory = simp (length-append, length-replicate) (omega arith); devices = refl; work = refl; ret = refl }
+
 not-refused : (n : ℕ) (s : State) (done : Reply) → unless n s done .answer ≡ Loaded → n ≡ 0
 unfolding unless
 not-refused zero s done e = refl
@@ -74,11 +92,18 @@ not-refused (suc n) s done e = let z : _≡_ {A = ℕ} 0 1 = cc in absurd (omega
 -- a load that is not refused leaves what document 01 lists, of a program that has room
 pub loaded : (program : List ℕ) (s : State) → loadCall program s .answer ≡ Loaded
     → (loadCall program s .state ≡ load program) × (length program ≤ loadMost)
-unfolding loadCall loadRows unless
+unfolding loadCall unless
 loaded program s t =
     let e = not-refused (refusal (loadRows program s)) s _ t in
-    let d = none-says 4 _ _ (buffers-right s _ e .1) in
-    (rw (e, unless), ltb-false loadMost (length program) (or-right (eqb (length program) 0) _ (d .0)))
+    (rw (e, unless), load-right program s e .1)
+
+-- ---- run
+
+pub run-passed : (budget : ℕ) (s : State) → Sized s → runCall budget s ≡ run budget s
+unfolding runCall unless
+run-passed budget s z =
+    let e : refusal (bufferRows s) ≡ 0 = ap refusal (sym (append-nil (bufferRows s))) ∙ buffers-passed s [] z ∙ no-rows in
+    rw (e, unless)
 
 -- ---- frame
 

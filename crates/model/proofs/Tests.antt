@@ -1,6 +1,6 @@
 -- Laws of tests. Assumes nothing.
 use mathlib.Core.Path.{_≡_, refl}
-use mathlib.Core.Bool.{Bool, true, false, _&&_}
+use mathlib.Core.Bool.{Bool, true, false, not, _&&_}
 use mathlib.Core.List.{List, [], _∷_}
 use Prim.Native.Nat.{ℕ, zero, suc}
 use lib.Dec.{T}
@@ -22,6 +22,10 @@ and-both false b t u = t
 pub is-true : (b : Bool) → T b → b ≡ true
 is-true true t = refl
 is-true false t = absurd t
+
+pub not-true : (b : Bool) → T (not b) → b ≡ false
+not-true true t = absurd t
+not-true false t = refl
 
 -- one of several tests that pass
 pub one-of : (tests : List Bool) (i : ℕ) → T (all tests) → T (getD tests i true)
