@@ -171,7 +171,7 @@ fn is_exception(byte: u8) -> bool {
 }
 
 /// The depths after an instruction other than a jump, where the rules let it stand.
-fn after(byte: u8, before: Depths) -> Option<Depths> {
+pub(crate) fn after(byte: u8, before: Depths) -> Option<Depths> {
     let Sizes { taken, pushed, .. } = sizes(byte);
     let keep = byte & 0x80 != 0;
     let one = |before: u32, taken: u32, pushed: u32| {

@@ -4,6 +4,7 @@
 //! - `second`: the second, independent machine; `pair`: both side by side;
 //! - `second_admission`: the second admission; `admissions`: the admissions side by side;
 //! - `watch`: demand 3, watched step by step;
+//! - `linked`: the linked programs; `listing`: programs written out to be read;
 //! - `random`, `assembler`, `opcodes`, `programs`, `filters`: where states and programs come from;
 //! - `peers`, `rust_core`, `rust_admission`, `workloads`, `timing`: the speed comparison.
 
@@ -12,6 +13,8 @@ pub mod assembler;
 pub mod calls;
 pub mod filters;
 pub mod library;
+pub mod linked;
+pub mod listing;
 pub mod opcodes;
 pub mod pair;
 pub mod peers;

@@ -1,6 +1,5 @@
 //! The linked programs `frames` and `sheet`: arguments, files and pipes of every kind, and the
-//! lines of `frames` beside the second machine. The programs stand in `target/bin` below the
-//! repository's root, or in the folder that UXN_FILTER_BIN names.
+//! lines of `frames` beside the second machine.
 
 use std::fs::{self, File};
 use std::io::{BufRead, BufReader, Read, Write};
@@ -10,17 +9,17 @@ use std::thread;
 use std::time::{Duration, Instant};
 
 use uxn_filter_harness::assembler::assemble;
-use uxn_filter_harness::calls::{
-    ADMIT_LIMIT, MEMORY, PAGE, PROGRAM_LIMIT, PROGRAM_START, RECORD, SHEET_RECORD,
-};
+use uxn_filter_harness::calls::{ADMIT_LIMIT, PROGRAM_LIMIT, RECORD, SHEET_RECORD};
 use uxn_filter_harness::filters::{any, any_length};
+use uxn_filter_harness::linked::{
+    self, expected, file, frames, lines_of, program, run, run_in_pieces, sheet, sheet_of,
+};
+use uxn_filter_harness::listing::{self, hexadecimal, listing, Listed};
 use uxn_filter_harness::pair::say;
 use uxn_filter_harness::programs::either;
 use uxn_filter_harness::random::{seed, Random};
-use uxn_filter_harness::second::{self, Answer, Parts, Record};
 use uxn_filter_harness::second_admission;
 
-const BUDGET: u32 = 10_000;
 /// A program that should have ended by then hangs.
 const PATIENCE: Duration = Duration::from_secs(20);
 /// Between pieces of input.
@@ -29,29 +28,7 @@ const PAUSE: Duration = Duration::from_millis(5);
 /// `80 01 80 F2 17 00`: passes every frame.
 const PASSES: [u8; 6] = [0x80, 0x01, 0x80, 0xf2, 0x17, 0x00];
 
-// Programs and files
-
-fn program(name: &str) -> PathBuf {
-    let folder = match std::env::var_os("UXN_FILTER_BIN") {
-        Some(named) => PathBuf::from(named),
-        None => Path::new(env!("CARGO_MANIFEST_DIR")).join("../target/bin"),
-    };
-    let path = folder.join(name);
-    assert!(
-        path.is_file(),
-        "the program {} is missing: `rt check {name}` in the repository's root makes it",
-        path.display()
-    );
-    path
-}
-
-fn frames() -> Command {
-    Command::new(program("frames"))
-}
-
-fn sheet() -> Command {
-    Command::new(program("sheet"))
-}
+// Files
 
 /// A file of the repository's example.
 fn example(name: &str) -> PathBuf {
@@ -62,18 +39,7 @@ fn example(name: &str) -> PathBuf {
 
 /// A folder of its own for a test.
 fn folder(test: &str) -> PathBuf {
-    let path = Path::new(env!("CARGO_TARGET_TMPDIR")).join(test);
-    if path.exists() {
-        fs::remove_dir_all(&path).expect("an old folder goes");
-    }
-    fs::create_dir_all(&path).expect("a folder is made");
-    path
-}
-
-fn file(folder: &Path, name: &str, bytes: &[u8]) -> PathBuf {
-    let path = folder.join(name);
-    fs::write(&path, bytes).expect("a file is written");
-    path
+    linked::folder(env!("CARGO_TARGET_TMPDIR"), test)
 }
 
 fn pipe(folder: &Path, name: &str) -> PathBuf {
@@ -100,41 +66,6 @@ fn ends(child: &mut Child) -> bool {
     child.kill().expect("the program is ended");
     child.wait().expect("the program is ended");
     false
-}
-
-/// A run to its end with the whole of standard input there from the start.
-fn run(command: &mut Command, input: &[u8]) -> Output {
-    run_in_pieces(command, input, input.len().max(1), Duration::ZERO)
-}
-
-fn run_in_pieces(command: &mut Command, input: &[u8], piece: usize, pause: Duration) -> Output {
-    let mut child = command
-        .stdin(Stdio::piped())
-        .stdout(Stdio::piped())
-        .stderr(Stdio::piped())
-        .spawn()
-        .expect("the program starts");
-    let mut stdin = child.stdin.take().unwrap();
-    let input = input.to_vec();
-    // The program may stop reading before the end.
-    let writer = thread::spawn(move || {
-        for part in input.chunks(piece) {
-            if stdin.write_all(part).is_err() {
-                return;
-            }
-            thread::sleep(pause);
-        }
-    });
-    let output = child.wait_with_output().expect("the program runs");
-    writer.join().expect("the input is written");
-    output
-}
-
-/// What `frames` writes for two files; it has nothing to say on standard error.
-fn lines_of(program: &Path, records: &Path) -> String {
-    let output = run(frames().arg(program).arg(records), &[]);
-    assert_eq!(String::from_utf8_lossy(&output.stderr), "");
-    String::from_utf8(output.stdout).expect("lines are text")
 }
 
 /// Nothing on standard output, one line on standard error that has this in it.
@@ -165,45 +96,6 @@ fn record(node: u8, data: &[u8]) -> [u8; RECORD] {
     record[1] = node;
     record[2..2 + data.len()].copy_from_slice(data);
     record
-}
-
-// The second machine
-
-fn line(reply: &second::Reply) -> String {
-    match reply.answer {
-        Answer::Broke if reply.verdict != 0 => "pass\n".to_owned(),
-        Answer::Broke => "drop\n".to_owned(),
-        Answer::Spent => "spent\n".to_owned(),
-        Answer::Refused(number) => format!("refused {number}\n"),
-        other => panic!("no frame call answers {other:?}"),
-    }
-}
-
-/// The lines that the program should write, from the second machine.
-fn expected(program: &[u8], records: &[u8]) -> String {
-    let mut parts = Parts {
-        memory: vec![0; MEMORY],
-        device_page: vec![0; PAGE],
-        working: vec![0; PAGE],
-        ret: vec![0; PAGE],
-    };
-    let fresh = Record {
-        counter: 0,
-        working_pointer: 0,
-        return_pointer: 0,
-    };
-    let loaded = second::load(fresh, &mut parts, program);
-    if loaded.answer != Answer::Loaded {
-        return line(&loaded);
-    }
-    let mut state = loaded.record;
-    let mut lines = String::new();
-    for frame in records.chunks_exact(RECORD) {
-        let reply = second::frame(state, &mut parts, frame, BUDGET);
-        state = reply.record;
-        lines += &line(&reply);
-    }
-    lines
 }
 
 /// Good records of every length, and records of wrong form.
@@ -562,65 +454,17 @@ fn a_full_device() {
 
 // The example
 
-/// A line of `filter.txt`: its address, its bytes, its instruction, the operand that is written
-/// beside it, and the bytes on the working stack before it.
-struct Listed {
-    address: u16,
-    bytes: Vec<u8>,
-    instruction: String,
-    operand: Option<u16>,
-    depth: usize,
-}
-
-fn hexadecimal(text: &str) -> Vec<u8> {
-    text.split_whitespace()
-        .map(|word| u8::from_str_radix(word, 16).expect("two digits"))
-        .collect()
-}
-
-fn listing() -> Vec<Listed> {
+fn example_listing() -> Vec<Listed> {
     let text = fs::read_to_string(example("filter.txt")).unwrap();
     let (_, table) = text
         .split_once("address  bytes     instruction\n")
         .expect("the head of the table");
-    table
-        .lines()
-        .map(|line| {
-            let mut words = line[19..].split_whitespace();
-            let instruction = words.next().unwrap().to_owned();
-            let has_operand = ["LIT", "JCI", "JMI"].contains(&&*instruction);
-            let (_, stack) = line.rsplit_once('[').expect("a stack");
-            Listed {
-                address: u16::from_str_radix(&line[..4], 16).unwrap(),
-                bytes: hexadecimal(&line[9..19]),
-                instruction,
-                operand: has_operand
-                    .then(|| u16::from_str_radix(words.next().unwrap(), 16).unwrap()),
-                depth: stack.trim_end_matches(']').split_whitespace().count(),
-            }
-        })
-        .collect()
+    listing(table)
 }
 
 #[test]
 fn the_listing_is_the_filter() {
-    let listing = listing();
-    let mut code: Vec<u8> = Vec::new();
-    for listed in &listing {
-        let next = listed.address + listed.bytes.len() as u16;
-        assert_eq!(usize::from(listed.address - PROGRAM_START), code.len());
-        assert_eq!(assemble(&listed.instruction), [listed.bytes[0]]);
-        match listed.bytes[1..] {
-            [] => assert_eq!(listed.operand, None),
-            [byte] => assert_eq!(listed.operand, Some(byte.into())),
-            [high, low] => {
-                let offset = u16::from_be_bytes([high, low]);
-                assert_eq!(listed.operand, Some(next.wrapping_add(offset)));
-            }
-            _ => panic!("an instruction of {} bytes", listed.bytes.len()),
-        }
-        code.extend(&listed.bytes);
-    }
+    let code = listing::code(&example_listing());
     assert_eq!(code, fs::read(example("filter.rom")).unwrap());
 }
 
@@ -657,22 +501,10 @@ fn the_records_are_as_their_text_says() {
 #[test]
 fn the_example_is_admitted() {
     let filter = fs::read(example("filter.rom")).unwrap();
-    let mut expected: Vec<u8> = filter.iter().flat_map(|&byte| [0, 0, 0, byte]).collect();
-    for listed in listing() {
-        let at = 4 * usize::from(listed.address - PROGRAM_START);
-        expected[at] = 1;
-        expected[at + 1] = listed.depth as u8;
-    }
-    assert_eq!(sheet_of(&filter), expected);
+    assert_eq!(sheet_of(&filter), listing::sheet(&example_listing()));
 }
 
 // sheet
-
-fn sheet_of(program: &[u8]) -> Vec<u8> {
-    let output = run(&mut sheet(), program);
-    assert_eq!(String::from_utf8_lossy(&output.stderr), "");
-    output.stdout
-}
 
 /// The sheet of document 01.
 const PASSES_SHEET: [u8; 24] = [
