@@ -1,0 +1,537 @@
+//! The page `docs/FILTERS.md`, run: its listings, bytes, records, lines, steps, sheets, tables and
+//! commands are read from the page, so that it says what the product does. The blocks:
+//!
+//! - `filter NAME`, `bytes NAME`, `records NAME`: an example's listing, its bytes, and its records,
+//!   each with the line that `frames` writes and the steps;
+//! - `verdicts`: short programs, each with its line for a frame of zeros, and its instructions;
+//! - `sheet`: a sheet, a record on each line;
+//! - `refused NAME`: listings under `refused NUMBER`, and one under `admitted`;
+//! - `console`: commands after `$`, and what they write.
+
+use std::collections::BTreeSet;
+use std::fs;
+use std::path::{Path, PathBuf};
+use std::process::Command;
+
+use uxn_filter_harness::admissions::Admissions;
+use uxn_filter_harness::assembler::assemble;
+use uxn_filter_harness::calls::{
+    ADMITTED, ADMIT_LIMIT, LOADED, PROGRAM_LIMIT, PROGRAM_START, RECORD, REFUSED, SHEET_RECORD,
+};
+use uxn_filter_harness::filters::forbidden_bytes;
+use uxn_filter_harness::linked::{self, expected, file, lines_of, program, run, sheet_of, BUDGET};
+use uxn_filter_harness::listing::{self, hexadecimal, listing, Listed};
+use uxn_filter_harness::opcodes::BRK;
+use uxn_filter_harness::pair::{say, Pair};
+use uxn_filter_harness::second_admission::{sizes, Sizes};
+use uxn_filter_harness::watch::Watch;
+
+const KINDS: [&str; 7] = [
+    "filter", "bytes", "records", "verdicts", "sheet", "refused", "console",
+];
+/// Examples and reasons of refusals that the page has to have.
+const EXAMPLES: [&str; 7] = ["all", "node", "value", "table", "check", "third", "peak"];
+const REASONS: [&str; 16] = [
+    "empty",
+    "long",
+    "few",
+    "keep",
+    "deep",
+    "ways",
+    "loop",
+    "both",
+    "end",
+    "cut",
+    "out",
+    "jmp",
+    "jcn",
+    "subroutine",
+    "store",
+    "store2",
+];
+const NOT_ADMITTED: u8 = 11;
+/// Stands before the comment of an instruction that breaks a rule.
+const FAULT: &str = "<-";
+
+fn page() -> String {
+    let path = Path::new(env!("CARGO_MANIFEST_DIR")).join("../docs/FILTERS.md");
+    fs::read_to_string(path).expect("the page")
+}
+
+/// A folder of its own for a test.
+fn folder(test: &str) -> PathBuf {
+    linked::folder(env!("CARGO_TARGET_TMPDIR"), test)
+}
+
+// Blocks and tables
+
+struct Block {
+    kind: String,
+    name: String,
+    text: String,
+}
+
+fn all_blocks() -> Vec<Block> {
+    let mut blocks = Vec::new();
+    let mut open: Option<Block> = None;
+    for line in page().lines() {
+        match (line.strip_prefix("```"), &mut open) {
+            (Some(head), None) => {
+                let (kind, name) = head.split_once(' ').unwrap_or((head, ""));
+                assert!(KINDS.contains(&kind), "a block of kind {head:?}");
+                open = Some(Block {
+                    kind: kind.to_owned(),
+                    name: name.to_owned(),
+                    text: String::new(),
+                });
+            }
+            (Some(end), Some(_)) => {
+                assert_eq!(end, "", "the end of a block");
+                blocks.extend(open.take());
+            }
+            (None, Some(block)) => {
+                block.text += line;
+                block.text += "\n";
+            }
+            (None, None) => {}
+        }
+    }
+    assert!(open.is_none(), "a block that does not end");
+    blocks
+}
+
+fn blocks(kind: &str) -> Vec<Block> {
+    let mut blocks = all_blocks();
+    blocks.retain(|block| block.kind == kind);
+    assert!(!blocks.is_empty(), "no block of kind {kind}");
+    blocks
+}
+
+/// The text of a block, if there is one.
+fn block(kind: &str, name: &str) -> Option<String> {
+    let mut named = blocks(kind);
+    named.retain(|block| block.name == name);
+    assert!(named.len() <= 1, "{kind} {name} stands twice");
+    named.pop().map(|block| block.text)
+}
+
+/// The parts of a line between bars.
+fn cells(line: &str) -> Vec<String> {
+    line.split('|').map(|cell| cell.trim().to_owned()).collect()
+}
+
+/// The rows of the table that has this head.
+fn table(head: &str) -> Vec<Vec<String>> {
+    let page = page();
+    let (_, below) = page.split_once(&format!("\n{head}\n")).expect(head);
+    let rows = below.lines().skip(1).map_while(|line| {
+        let row = line.strip_prefix('|')?.strip_suffix('|')?;
+        Some(cells(row))
+    });
+    rows.collect()
+}
+
+// Programs
+
+/// The program of a listing, which is admitted: the library, the second admission and the one in safe
+/// Rust agree in that, and the sheet is the one of the listing's brackets. `sheet` writes it.
+fn assert_admitted(name: &str, lines: &[Listed]) -> Vec<u8> {
+    let code = listing::code(lines);
+    assert_admitted_with(name, &code, &listing::sheet(lines));
+    code
+}
+
+fn assert_admitted_with(name: &str, code: &[u8], sheet: &[u8]) {
+    let mut admissions = Admissions::new(0);
+    assert_eq!(admissions.admit(code), ADMITTED, "{name}");
+    assert_eq!(admissions.sheet(), sheet, "the sheet of {name}");
+    assert_eq!(sheet_of(code), sheet, "{name}: what `sheet` writes");
+}
+
+fn assert_refused(name: &str, code: &[u8], number: u8) {
+    assert_eq!(Admissions::new(0).admit(code), number, "{name}");
+    assert_eq!(sheet_of(code), [], "{name}: what `sheet` writes");
+}
+
+/// The line that `frames` writes for each record, and the second machine; demand 3 is watched.
+/// Answers the steps of each.
+fn assert_lines(name: &str, code: &[u8], records: &[[u8; RECORD]], lines: &str) -> Vec<u32> {
+    let folder = folder(&format!("lines_of_{name}"));
+    let rom = file(&folder, "filter.rom", code);
+    let bytes = records.as_flattened();
+    let written = lines_of(&rom, &file(&folder, "records.bin", bytes));
+    assert_eq!(written, lines, "{name}: what `frames` writes");
+    assert_eq!(expected(code, bytes), lines, "{name}: the second machine");
+
+    let mut pair = Pair::new(0);
+    assert_eq!(pair.load(code).answer, LOADED);
+    let mut watch = Watch::admitted(code).unwrap_or_else(|what| panic!("{name}: {what}"));
+    let steps = records.iter().map(|record| {
+        if let Err(what) = watch.frame(record, BUDGET) {
+            panic!("{name}: {what}");
+        }
+        pair.frame(record, BUDGET).steps
+    });
+    steps.collect()
+}
+
+/// A record that is given up to its last byte that is not 0.
+fn record(text: &str) -> [u8; RECORD] {
+    let mut bytes = hexadecimal(text);
+    assert!(bytes.len() <= RECORD, "a record of {} bytes", bytes.len());
+    bytes.resize(RECORD, 0);
+    bytes.try_into().unwrap()
+}
+
+// The examples
+
+#[test]
+fn the_examples_are_there() {
+    for name in EXAMPLES {
+        for kind in ["filter", "bytes", "records"] {
+            assert!(block(kind, name).is_some(), "no block: {kind} {name}");
+        }
+        let records = block("records", name).unwrap();
+        assert!(records.lines().count() >= 2, "records of {name}");
+    }
+    for kind in ["bytes", "records"] {
+        for Block { name, .. } in blocks(kind) {
+            assert!(block("filter", &name).is_some(), "no block: filter {name}");
+        }
+    }
+}
+
+#[test]
+fn the_examples_are_admitted() {
+    for Block { name, text, .. } in blocks("filter") {
+        println!("filter {name}");
+        let code = assert_admitted(&name, &listing(&text));
+        if let Some(bytes) = block("bytes", &name) {
+            assert_eq!(hexadecimal(&bytes), code, "the bytes of {name}");
+        }
+    }
+}
+
+#[test]
+fn the_examples_give_their_lines() {
+    let mut seen = BTreeSet::new();
+    for Block { name, text, .. } in blocks("filter") {
+        let code = listing::code(&listing(&text));
+        let rows = block("records", &name).unwrap_or_else(|| panic!("no records of {name}"));
+        let rows: Vec<Vec<String>> = rows.lines().map(cells).collect();
+        let records: Vec<[u8; RECORD]> = rows.iter().map(|row| record(&row[0])).collect();
+        let lines: String = rows.iter().map(|row| row[1].clone() + "\n").collect();
+        let said = rows.iter().map(|row| row[2].replace(',', ""));
+        let said: Vec<u32> = said.map(|steps| steps.parse().unwrap()).collect();
+        let steps = assert_lines(&name, &code, &records, &lines);
+        assert_eq!(steps, said, "the steps of {name}");
+        seen.extend(rows.into_iter().map(|mut row| row.swap_remove(1)));
+    }
+    let every = ["drop", "pass", "refused 8", "spent"].map(str::to_owned);
+    assert_eq!(seen, BTreeSet::from(every));
+}
+
+/// The bytes of instructions without jumps, in the page's words.
+fn assembled(text: &str) -> Vec<u8> {
+    let mut words = Vec::new();
+    let mut after_literal = false;
+    for word in text.split_whitespace() {
+        // The assembler takes numbers in small letters.
+        words.push(match after_literal {
+            true => word.to_lowercase(),
+            false => word.to_owned(),
+        });
+        after_literal = word.starts_with("LIT");
+    }
+    assemble(&words.join(" "))
+}
+
+#[test]
+fn the_verdicts_are_as_said() {
+    for Block { text, .. } in blocks("verdicts") {
+        assert!(text.lines().count() >= 4, "verdicts of every kind");
+        for line in text.lines() {
+            let [bytes, said, instructions] = &cells(line)[..] else {
+                panic!("three parts: {line}");
+            };
+            let code = hexadecimal(bytes);
+            let (words, _) = instructions.split_once(':').unwrap_or((instructions, ""));
+            assert_eq!(assembled(words), code, "{line}");
+            let name = format!("verdict_{}", bytes.replace(' ', ""));
+            assert_lines(&name, &code, &[[0; RECORD]], &format!("{said}\n"));
+        }
+    }
+}
+
+// Refusals
+
+/// The listings of a block, each below its head.
+fn parts(text: &str) -> Vec<(&str, Vec<Listed>)> {
+    let is_head = |line: &str| line.starts_with("refused ") || line == "admitted";
+    let mut parts: Vec<(&str, String)> = Vec::new();
+    for line in text.lines() {
+        match parts.last_mut() {
+            Some((_, lines)) if !is_head(line) => {
+                *lines += line;
+                *lines += "\n";
+            }
+            _ => parts.push((line, String::new())),
+        }
+    }
+    let listings = parts.into_iter();
+    listings
+        .map(|(head, lines)| (head, listing(&lines)))
+        .collect()
+}
+
+/// With BRK in place of the instruction that breaks a rule the program is admitted, with the depths
+/// listed.
+fn assert_fault(name: &str, lines: &[Listed]) {
+    let faults = lines
+        .iter()
+        .filter(|listed| listed.comment.starts_with(FAULT));
+    let [fault] = faults.collect::<Vec<_>>()[..] else {
+        panic!("{name}: one instruction with {FAULT}");
+    };
+    assert_ne!(fault.bytes[0], BRK, "{name}");
+    let place = usize::from(fault.address - PROGRAM_START);
+    let mut code = listing::code(lines);
+    let mut sheet = listing::sheet(lines);
+    code[place] = BRK;
+    sheet[SHEET_RECORD * place + 3] = BRK;
+    assert_admitted_with(&format!("{name} with BRK"), &code, &sheet);
+}
+
+#[test]
+fn every_reason_is_there() {
+    for name in REASONS {
+        assert!(block("refused", name).is_some(), "no block: refused {name}");
+    }
+}
+
+#[test]
+fn refused_programs_and_the_same_mended() {
+    let folder = folder("refused_programs_and_the_same_mended");
+    let records = file(&folder, "records.bin", &[0; RECORD]);
+    let mut refused = 0;
+    for Block { name, text, .. } in blocks("refused") {
+        println!("refused {name}");
+        let parts = parts(&text);
+        let Some(((head, mended), wrong)) = parts.split_last() else {
+            panic!("an empty block: {name}");
+        };
+        assert_eq!(*head, "admitted", "the last part of {name}");
+        let code = assert_admitted(&name, mended);
+        let mut watch = Watch::admitted(&code).unwrap();
+        for frame in [record("00"), record("3E 05 01 x62")] {
+            watch.frame(&frame, BUDGET).unwrap();
+        }
+        assert!(!wrong.is_empty(), "{name}: nothing is refused");
+        for (head, lines) in wrong {
+            let number = head.strip_prefix("refused ").expect(head);
+            let number = number.parse().expect("a number");
+            let code = listing::code(lines);
+            assert_refused(&name, &code, number);
+            if number == NOT_ADMITTED {
+                assert_fault(&name, lines);
+            }
+            if number == 5 {
+                let rom = file(&folder, "program.rom", &code);
+                assert_eq!(lines_of(&rom, &records), "refused 5\n");
+            }
+            refused += 1;
+        }
+    }
+    say(&format!("the page: {refused} programs are refused as said"));
+}
+
+/// Each number of the table, from the call that gives it.
+#[test]
+fn the_numbers_of_the_table() {
+    let rows = table("| number | what it means | what to do |");
+    let numbers: Vec<u8> = rows.iter().map(|row| row[0].parse().unwrap()).collect();
+    assert_eq!(numbers, [5, 7, 8, 9, 10, 11]);
+
+    let mut pair = Pair::new(0);
+    for (length, number) in [(0, 5), (1, 0), (PROGRAM_LIMIT, 0), (PROGRAM_LIMIT + 1, 5)] {
+        assert_eq!(pair.load(&vec![0; length]).number, number);
+    }
+    pair.load(&[BRK]);
+    for length in [0, 63, 65, 128] {
+        let reply = pair.frame(&vec![0; length], BUDGET);
+        assert_eq!((reply.answer, reply.number), (REFUSED, 7));
+    }
+    for wrong in ["3F 05", "00 05 01", "3D 05 01 x62"] {
+        let reply = pair.frame(&record(wrong), BUDGET);
+        assert_eq!((reply.answer, reply.number), (REFUSED, 8));
+    }
+    let mut admissions = Admissions::new(0);
+    assert_eq!(admissions.admit(&[]), 5);
+    assert_eq!(admissions.admit(&vec![0; ADMIT_LIMIT + 1]), 9);
+    assert_eq!(admissions.admit(&vec![0; ADMIT_LIMIT]), ADMITTED);
+    for length in [0, 3, 5, 8] {
+        assert_eq!(admissions.admit_into(&[BRK], length), 10);
+    }
+    assert_eq!(admissions.admit(&[0x02]), 11);
+}
+
+// Sheets
+
+/// The fourth byte of each record is the program's, so a sheet says of which program it is.
+#[test]
+fn the_sheets_are_as_written() {
+    for Block { text, .. } in blocks("sheet") {
+        let sheet = hexadecimal(&text);
+        assert!(text.lines().all(|line| hexadecimal(line).len() == 4));
+        let code: Vec<u8> = sheet.iter().skip(3).step_by(4).copied().collect();
+        assert_admitted_with("a sheet", &code, &sheet);
+    }
+}
+
+#[test]
+fn the_sheet_as_a_table() {
+    let rows = table("| address | mark | working depth | return depth | byte | |");
+    let mut sheet: Vec<u8> = Vec::new();
+    for (place, row) in rows.iter().enumerate() {
+        assert_eq!(
+            row[0],
+            format!("{:04X}", usize::from(PROGRAM_START) + place)
+        );
+        sheet.extend(row[1..4].iter().map(|cell| cell.parse::<u8>().unwrap()));
+        sheet.extend(hexadecimal(&row[4]));
+    }
+    let all = hexadecimal(&block("bytes", "all").unwrap());
+    assert_eq!(sheet_of(&all), sheet);
+}
+
+// Instructions
+
+/// Bytes of operands: `addr8` is one, `addr16` two, and the others have the form's size.
+fn bytes_of(operands: &str, form: u32) -> u32 {
+    let sizes = operands.split_whitespace().map(|operand| {
+        if operand.ends_with("16") {
+            2
+        } else if operand.ends_with('8') {
+            1
+        } else {
+            form
+        }
+    });
+    sizes.sum()
+}
+
+/// Every byte stands in one of the three tables, and takes and gives what its row says.
+#[test]
+fn the_tables_of_instructions() {
+    let mut seen = BTreeSet::new();
+    let mut see = |byte: u8| assert!(seen.insert(byte), "{byte:02X} stands twice");
+    let forbidden = forbidden_bytes();
+
+    // Names and bits of the modes, alone and together; the assembler has them in the order 2, k, r.
+    let mut named = table("| bit | name | |");
+    named.sort_by(|one, other| one[1].cmp(&other[1]));
+    let mut modes = vec![(String::new(), 0)];
+    for row in named {
+        for (name, bits) in modes.clone() {
+            modes.push((name + &row[1], bits | hexadecimal(&row[0])[0]));
+        }
+    }
+    assert_eq!(modes.len(), 8);
+
+    for row in table("| code | name | takes | gives | |") {
+        let codes = hexadecimal(&row[0]);
+        let names: Vec<&str> = row[1].split_whitespace().collect();
+        assert_eq!(codes.len(), names.len(), "{row:?}");
+        for (code, name) in codes.into_iter().zip(names) {
+            for (modes, bits) in &modes {
+                let byte = code | bits;
+                assert_eq!(assemble(&format!("{name}{modes}")), [byte]);
+                if forbidden.contains(&byte) {
+                    assert!(name == "STZ" && modes.starts_with('2'));
+                    continue;
+                }
+                see(byte);
+                let form = if modes.starts_with('2') { 2 } else { 1 };
+                let taken = bytes_of(&row[2], form);
+                let (given, to_other) = match row[3].strip_prefix("other:") {
+                    Some(given) => (0, bytes_of(given, form)),
+                    None => (bytes_of(&row[3], form), 0),
+                };
+                let Sizes {
+                    taken: takes,
+                    pushed,
+                    length,
+                } = sizes(byte);
+                let (main, other) = match modes.ends_with('r') {
+                    true => ((takes.ret, pushed.ret), (takes.working, pushed.working)),
+                    false => ((takes.working, pushed.working), (takes.ret, pushed.ret)),
+                };
+                assert_eq!((main, other), ((taken, given), (0, to_other)), "{name}");
+                assert_eq!(length, 1);
+            }
+        }
+    }
+
+    for row in table("| bytes | name | takes | gives | |") {
+        let (code, operand) = row[0].split_at(2);
+        let byte = hexadecimal(code)[0];
+        see(byte);
+        assert_eq!(assemble(&row[1]), [byte]);
+        let said = sizes(byte);
+        let operand_bytes = operand.split_whitespace().count() as u32;
+        assert_eq!(said.length, 1 + operand_bytes, "{row:?}");
+        assert_eq!(said.taken.working, bytes_of(&row[2], 0), "{row:?}");
+        let given = bytes_of(&row[3], 0);
+        let (pushed, other) = match row[1].ends_with('r') {
+            true => (said.pushed.ret, said.pushed.working),
+            false => (said.pushed.working, said.pushed.ret),
+        };
+        assert_eq!((pushed, other, said.taken.ret), (given, 0, 0), "{row:?}");
+    }
+
+    let mut listed = BTreeSet::new();
+    for row in table("| not allowed | bytes | in their place |") {
+        let operations = row[0]
+            .split_whitespace()
+            .map(|name| assemble(name)[0] & 0x1f);
+        let operations: Vec<u8> = operations.collect();
+        for byte in hexadecimal(&row[1]) {
+            assert!(operations.contains(&(byte & 0x1f)), "{byte:02X} in {row:?}");
+            listed.insert(byte);
+            see(byte);
+        }
+    }
+    assert_eq!(listed, forbidden.into_iter().collect());
+    assert_eq!(listed.len(), 45);
+    assert_eq!(seen.len(), 256);
+}
+
+// Commands
+
+#[test]
+fn the_commands_write_what_is_said() {
+    let has_xxd = Command::new("xxd").arg("-v").output().is_ok();
+    let programs = program("sheet");
+    let mut path = programs.parent().unwrap().as_os_str().to_owned();
+    path.push(":");
+    path.push(std::env::var_os("PATH").unwrap_or_default());
+    for Block { text, .. } in blocks("console") {
+        if text.contains("xxd") && !has_xxd {
+            say("xxd is not there: commands of docs/FILTERS.md that use it are not run");
+            continue;
+        }
+        let (commands, said): (Vec<&str>, Vec<&str>) =
+            text.lines().partition(|line| line.starts_with("$ "));
+        let commands: Vec<&str> = commands.iter().map(|command| &command[2..]).collect();
+        let mut shell = Command::new("sh");
+        shell.args(["-e", "-c", &commands.join("\n")]);
+        let output = run(
+            shell.env("PATH", &path).current_dir(folder("commands")),
+            &[],
+        );
+        assert_eq!(String::from_utf8_lossy(&output.stderr), "");
+        let written = String::from_utf8_lossy(&output.stdout);
+        assert_eq!(written.lines().collect::<Vec<_>>(), said);
+        assert!(output.status.success());
+    }
+}
