@@ -22,7 +22,7 @@ use uxn_filter_harness::filters::forbidden_bytes;
 use uxn_filter_harness::linked::{self, expected, file, lines_of, program, run, sheet_of, BUDGET};
 use uxn_filter_harness::listing::{self, hexadecimal, listing, Listed};
 use uxn_filter_harness::opcodes::BRK;
-use uxn_filter_harness::pair::{say, Pair};
+use uxn_filter_harness::pair::{say, Pair, Part};
 use uxn_filter_harness::second_admission::{sizes, Sizes};
 use uxn_filter_harness::watch::Watch;
 
@@ -231,6 +231,24 @@ fn the_examples_give_their_lines() {
     assert_eq!(seen, BTreeSet::from(every));
 }
 
+/// The frame's bytes stand where the table says.
+#[test]
+fn the_frame_in_memory() {
+    let rows = table("| address | what stands there |");
+    let at = rows[..3].iter().map(|row| {
+        let address = row[0].split_whitespace().next().unwrap();
+        usize::from_str_radix(address, 16).expect("an address")
+    });
+    let mut pair = Pair::new(0);
+    pair.load(&[BRK]);
+    let record = record("02 05 12 34");
+    pair.frame(&record, BUDGET);
+    let memory = pair.bytes(Part::Memory);
+    let found: Vec<u8> = at.map(|at| memory[at]).collect();
+    assert_eq!(found, [0x02, 0x05, 0x12], "length, node number, data");
+    assert_eq!(memory[0x80..=0xbf], record);
+}
+
 /// The bytes of instructions without jumps, in the page's words.
 fn assembled(text: &str) -> Vec<u8> {
     let mut words = Vec::new();
@@ -406,15 +424,16 @@ fn the_sheet_as_a_table() {
 
 // Instructions
 
-/// Bytes of operands: `addr8` is one, `addr16` two, and the others have the form's size.
-fn bytes_of(operands: &str, form: u32) -> u32 {
+/// Bytes of operands: `addr8` is one, `addr16` two, and the others have the form's size, if there is
+/// one.
+fn bytes_of(operands: &str, form: Option<u32>) -> u32 {
     let sizes = operands.split_whitespace().map(|operand| {
         if operand.ends_with("16") {
             2
         } else if operand.ends_with('8') {
             1
         } else {
-            form
+            form.expect(operand)
         }
     });
     sizes.sum()
@@ -451,7 +470,7 @@ fn the_tables_of_instructions() {
                     continue;
                 }
                 see(byte);
-                let form = if modes.starts_with('2') { 2 } else { 1 };
+                let form = Some(if modes.starts_with('2') { 2 } else { 1 });
                 let taken = bytes_of(&row[2], form);
                 let (given, to_other) = match row[3].strip_prefix("other:") {
                     Some(given) => (0, bytes_of(given, form)),
@@ -480,8 +499,8 @@ fn the_tables_of_instructions() {
         let said = sizes(byte);
         let operand_bytes = operand.split_whitespace().count() as u32;
         assert_eq!(said.length, 1 + operand_bytes, "{row:?}");
-        assert_eq!(said.taken.working, bytes_of(&row[2], 0), "{row:?}");
-        let given = bytes_of(&row[3], 0);
+        assert_eq!(said.taken.working, bytes_of(&row[2], None), "{row:?}");
+        let given = bytes_of(&row[3], None);
         let (pushed, other) = match row[1].ends_with('r') {
             true => (said.pushed.ret, said.pushed.working),
             false => (said.pushed.working, said.pushed.ret),
@@ -515,7 +534,9 @@ fn the_commands_write_what_is_said() {
     let mut path = programs.parent().unwrap().as_os_str().to_owned();
     path.push(":");
     path.push(std::env::var_os("PATH").unwrap_or_default());
-    for Block { text, .. } in blocks("console") {
+    let blocks = blocks("console");
+    assert!(blocks.len() >= 2, "a sheet and frames");
+    for Block { text, .. } in blocks {
         if text.contains("xxd") && !has_xxd {
             say("xxd is not there: commands of docs/FILTERS.md that use it are not run");
             continue;
