@@ -4,18 +4,22 @@
 //! - `second`: the second, independent machine; `pair`: both side by side;
 //! - `second_admission`: the second admission; `admissions`: the admissions side by side;
 //! - `watch`: demand 3, watched step by step;
-//! - `linked`: the linked programs; `listing`: programs written out to be read;
+//! - `linked`: the linked programs; `compiled`: C programs over the library;
+//! - `listing`: programs written out to be read; `page`: blocks and tables of a page of `docs`;
+//! - `soak`: rounds that go on for minutes;
 //! - `random`, `assembler`, `opcodes`, `programs`, `filters`: where states and programs come from;
 //! - `peers`, `rust_core`, `rust_admission`, `workloads`, `timing`: the speed comparison.
 
 pub mod admissions;
 pub mod assembler;
 pub mod calls;
+pub mod compiled;
 pub mod filters;
 pub mod library;
 pub mod linked;
 pub mod listing;
 pub mod opcodes;
+pub mod page;
 pub mod pair;
 pub mod peers;
 pub mod programs;
@@ -24,6 +28,7 @@ pub mod rust_admission;
 pub mod rust_core;
 pub mod second;
 pub mod second_admission;
+pub mod soak;
 pub mod timing;
 pub mod watch;
 pub mod workloads;

@@ -9,8 +9,7 @@
 //! - `console`: commands after `$`, and what they write.
 
 use std::collections::BTreeSet;
-use std::fs;
-use std::path::{Path, PathBuf};
+use std::path::PathBuf;
 use std::process::Command;
 
 use uxn_filter_harness::admissions::Admissions;
@@ -22,6 +21,7 @@ use uxn_filter_harness::filters::forbidden_bytes;
 use uxn_filter_harness::linked::{self, expected, file, lines_of, program, run, sheet_of, BUDGET};
 use uxn_filter_harness::listing::{self, hexadecimal, listing, Listed};
 use uxn_filter_harness::opcodes::BRK;
+use uxn_filter_harness::page::{self, cells, Block};
 use uxn_filter_harness::pair::{say, Pair, Part};
 use uxn_filter_harness::second_admission::{sizes, Sizes};
 use uxn_filter_harness::watch::Watch;
@@ -54,8 +54,7 @@ const NOT_ADMITTED: u8 = 11;
 const FAULT: &str = "<-";
 
 fn page() -> String {
-    let path = Path::new(env!("CARGO_MANIFEST_DIR")).join("../docs/FILTERS.md");
-    fs::read_to_string(path).expect("the page")
+    page::read("FILTERS.md")
 }
 
 /// A folder of its own for a test.
@@ -65,38 +64,15 @@ fn folder(test: &str) -> PathBuf {
 
 // Blocks and tables
 
-struct Block {
-    kind: String,
-    name: String,
-    text: String,
-}
-
 fn all_blocks() -> Vec<Block> {
-    let mut blocks = Vec::new();
-    let mut open: Option<Block> = None;
-    for line in page().lines() {
-        match (line.strip_prefix("```"), &mut open) {
-            (Some(head), None) => {
-                let (kind, name) = head.split_once(' ').unwrap_or((head, ""));
-                assert!(KINDS.contains(&kind), "a block of kind {head:?}");
-                open = Some(Block {
-                    kind: kind.to_owned(),
-                    name: name.to_owned(),
-                    text: String::new(),
-                });
-            }
-            (Some(end), Some(_)) => {
-                assert_eq!(end, "", "the end of a block");
-                blocks.extend(open.take());
-            }
-            (None, Some(block)) => {
-                block.text += line;
-                block.text += "\n";
-            }
-            (None, None) => {}
-        }
+    let blocks = page::blocks(&page());
+    for block in &blocks {
+        assert!(
+            KINDS.contains(&&*block.kind),
+            "a block of kind {:?}",
+            block.kind
+        );
     }
-    assert!(open.is_none(), "a block that does not end");
     blocks
 }
 
@@ -115,20 +91,8 @@ fn block(kind: &str, name: &str) -> Option<String> {
     named.pop().map(|block| block.text)
 }
 
-/// The parts of a line between bars.
-fn cells(line: &str) -> Vec<String> {
-    line.split('|').map(|cell| cell.trim().to_owned()).collect()
-}
-
-/// The rows of the table that has this head.
 fn table(head: &str) -> Vec<Vec<String>> {
-    let page = page();
-    let (_, below) = page.split_once(&format!("\n{head}\n")).expect(head);
-    let rows = below.lines().skip(1).map_while(|line| {
-        let row = line.strip_prefix('|')?.strip_suffix('|')?;
-        Some(cells(row))
-    });
-    rows.collect()
+    page::table(&page(), head)
 }
 
 // Programs

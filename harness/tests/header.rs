@@ -3,6 +3,8 @@
 use std::path::Path;
 use std::process::Command;
 
+use uxn_filter_harness::compiled::{build_c, printed, repository};
+
 const SAYS: &str = "\
 load: answer 1, number 0, steps 0, verdict 0, pc 0100, wp 0, rp 0
 step: answer 2, number 0, steps 1, verdict 0, pc 0102, wp 1, rp 0
@@ -22,20 +24,7 @@ admit: 1
 
 #[test]
 fn a_c_program_makes_every_call() {
-    let here = Path::new(env!("CARGO_MANIFEST_DIR"));
     let program = Path::new(env!("CARGO_TARGET_TMPDIR")).join("header");
-    let built = Command::new("cc")
-        .args(["-std=c11", "-Wall", "-Wextra", "-Werror", "-pedantic"])
-        .arg("-I")
-        .arg(here.join("../include"))
-        .arg(here.join("tests/header.c"))
-        .arg(env!("UXN_FILTER_LIBRARY"))
-        .arg("-o")
-        .arg(&program)
-        .status()
-        .expect("cc runs");
-    assert!(built.success(), "cc refused tests/header.c");
-    let output = Command::new(&program).output().expect("the program runs");
-    assert_eq!(String::from_utf8_lossy(&output.stdout), SAYS);
-    assert!(output.status.success());
+    build_c(&repository("harness/tests/header.c"), &program);
+    assert_eq!(printed(&mut Command::new(&program)), SAYS);
 }

@@ -1,71 +1,42 @@
-//! The linked programs `frames` and `sheet`: arguments, files and pipes of every kind, and the
-//! lines of `frames` beside the second machine.
+//! The linked programs `frames` and `sheet`: arguments, files and pipes of every kind, their lines
+//! and sheets beside the second machine and the second admission, the example, and valgrind.
 
+use std::ffi::OsStr;
 use std::fs::{self, File};
 use std::io::{BufRead, BufReader, Read, Write};
+use std::os::fd::OwnedFd;
+use std::os::unix::ffi::OsStrExt;
+use std::os::unix::net::UnixStream;
 use std::path::{Path, PathBuf};
-use std::process::{Child, Command, Output, Stdio};
+use std::process::{Command, Output, Stdio};
+use std::sync::Mutex;
 use std::thread;
 use std::time::{Duration, Instant};
 
 use uxn_filter_harness::assembler::assemble;
-use uxn_filter_harness::calls::{ADMIT_LIMIT, PROGRAM_LIMIT, RECORD, SHEET_RECORD};
+use uxn_filter_harness::calls::{ADMIT_LIMIT, PROGRAM_LIMIT, RECORD};
+use uxn_filter_harness::compiled::repository;
 use uxn_filter_harness::filters::{any, any_length};
 use uxn_filter_harness::linked::{
-    self, expected, file, frames, lines_of, program, run, run_in_pieces, sheet, sheet_of,
+    self, after, ends, expected, expected_sheet, file, frames, lines_of, pipe, program,
+    random_record, run, run_in_pieces, sheet, sheet_of, PASSES, PATIENCE,
 };
 use uxn_filter_harness::listing::{self, hexadecimal, listing, Listed};
 use uxn_filter_harness::pair::say;
 use uxn_filter_harness::programs::either;
 use uxn_filter_harness::random::{seed, Random};
-use uxn_filter_harness::second_admission;
 
-/// A program that should have ended by then hangs.
-const PATIENCE: Duration = Duration::from_secs(20);
 /// Between pieces of input.
 const PAUSE: Duration = Duration::from_millis(5);
 
-/// `80 01 80 F2 17 00`: passes every frame.
-const PASSES: [u8; 6] = [0x80, 0x01, 0x80, 0xf2, 0x17, 0x00];
-
-// Files
-
 /// A file of the repository's example.
 fn example(name: &str) -> PathBuf {
-    Path::new(env!("CARGO_MANIFEST_DIR"))
-        .join("../crates/frames/data")
-        .join(name)
+    repository("crates/frames/data").join(name)
 }
 
 /// A folder of its own for a test.
 fn folder(test: &str) -> PathBuf {
     linked::folder(env!("CARGO_TARGET_TMPDIR"), test)
-}
-
-fn pipe(folder: &Path, name: &str) -> PathBuf {
-    let path = folder.join(name);
-    let made = Command::new("mkfifo")
-        .arg(&path)
-        .status()
-        .expect("mkfifo runs");
-    assert!(made.success());
-    path
-}
-
-// Runs
-
-/// Waits for the end, and says whether it came in time.
-fn ends(child: &mut Child) -> bool {
-    let start = Instant::now();
-    while start.elapsed() < PATIENCE {
-        if child.try_wait().expect("the program runs").is_some() {
-            return true;
-        }
-        thread::sleep(Duration::from_millis(2));
-    }
-    child.kill().expect("the program is ended");
-    child.wait().expect("the program is ended");
-    false
 }
 
 /// Nothing on standard output, one line on standard error that has this in it.
@@ -96,32 +67,6 @@ fn record(node: u8, data: &[u8]) -> [u8; RECORD] {
     record[1] = node;
     record[2..2 + data.len()].copy_from_slice(data);
     record
-}
-
-/// Good records of every length, and records of wrong form.
-fn random_record(random: &mut Random) -> [u8; RECORD] {
-    let mut frame = [0; RECORD];
-    random.fill(&mut frame);
-    let most = RECORD - 2;
-    match random.below(8) {
-        0 => {}
-        1 => {
-            frame[0] = 1 + most as u8;
-        }
-        2 => {
-            let length = random.below(most);
-            frame[0] = length as u8;
-            frame[2 + length..].fill(0);
-            let past = 2 + length + random.below(most - length);
-            frame[past] = 1;
-        }
-        _ => {
-            let length = random.below(most + 1);
-            frame[0] = length as u8;
-            frame[2 + length..].fill(0);
-        }
-    }
-    frame
 }
 
 // frames: arguments and files
@@ -397,6 +342,98 @@ fn a_line_comes_at_once() {
     assert_eq!(left, "");
 }
 
+// frames: what the system gives it
+
+/// Whatever a shell has closed before; the files are opened on the numbers that are free then.
+#[test]
+fn descriptors_that_are_closed() {
+    let folder = folder("descriptors_that_are_closed");
+    let passes = file(&folder, "passes.rom", &PASSES);
+    let records = file(&folder, "records.bin", &[0; 3 * RECORD]);
+    let unwritten = "standard output: Bad file descriptor\n";
+    for (closed, out, said) in [
+        ("exec <&-", "pass\npass\npass\n", ""),
+        ("exec 2>&-", "pass\npass\npass\n", ""),
+        ("exec <&- 2>&-", "pass\npass\npass\n", ""),
+        ("exec >&-", "", unwritten),
+        ("exec <&- >&-", "", unwritten),
+        ("exec <&- >&- 2>&-", "", ""),
+    ] {
+        let output = run(after(closed, "frames").arg(&passes).arg(&records), &[]);
+        assert_eq!(String::from_utf8_lossy(&output.stdout), out, "{closed}");
+        assert_eq!(String::from_utf8_lossy(&output.stderr), said, "{closed}");
+        assert!(output.status.success(), "{closed}: {}", output.status);
+    }
+    assert_eq!(fs::read(&passes).unwrap(), PASSES);
+    assert_eq!(fs::read(&records).unwrap(), [0; 3 * RECORD]);
+
+    let output = run(&mut after("exec <&-", "sheet"), &PASSES);
+    assert_only_complains(&output, "standard input: ");
+    let output = run(&mut after("exec >&-", "sheet"), &PASSES);
+    assert_only_complains(&output, "standard output: ");
+}
+
+/// A name is any bytes but 0 and the slash.
+#[test]
+fn names_of_any_bytes() {
+    let folder = folder("names_of_any_bytes");
+    let every: Vec<u8> = (1..=255).filter(|byte| *byte != b'/').collect();
+    let halves = every.split_at(every.len() / 2);
+    for bytes in [halves.0, halves.1, b"-h", b"--", b"-", b" "] {
+        let name = OsStr::from_bytes(bytes);
+        fs::write(folder.join(name), PASSES).expect("a file is written");
+        let records = [OsStr::from_bytes(b"records-"), name].join(OsStr::new(""));
+        fs::write(folder.join(&records), [0; RECORD]).expect("a file is written");
+        let output = run(frames().arg(name).arg(&records).current_dir(&folder), &[]);
+        assert_eq!(String::from_utf8_lossy(&output.stderr), "");
+        assert_eq!(String::from_utf8_lossy(&output.stdout), "pass\n");
+        fs::remove_file(folder.join(name)).expect("the file goes");
+        let output = run(frames().arg(name).arg(&records).current_dir(&folder), &[]);
+        assert!(output.stdout.is_empty());
+        assert!(
+            output.stderr.starts_with(bytes),
+            "the name is in the message"
+        );
+    }
+}
+
+/// The program is read to the end of standard input; no record is left there.
+#[test]
+fn both_from_one_input() {
+    let mut input = PASSES.to_vec();
+    input.extend([0; 5 * RECORD]);
+    let output = run(frames().args(["/dev/stdin", "/dev/stdin"]), &input);
+    assert_eq!(output.stdout, []);
+    assert_eq!(String::from_utf8_lossy(&output.stderr), "");
+    let folder = folder("both_from_one_input");
+    let mut code = PASSES.to_vec();
+    code.resize(3 * RECORD, 0);
+    let both = file(&folder, "both", &code);
+    assert_eq!(lines_of(&both, &both), expected(&code, &code));
+}
+
+/// A record file of any length takes the same memory.
+#[test]
+fn little_memory() {
+    let folder = folder("little_memory");
+    let passes = file(&folder, "passes.rom", &PASSES);
+    let records = folder.join("records.bin");
+    let count = 1_000_000;
+    let zeros = File::create(&records).expect("a file is made");
+    zeros
+        .set_len((RECORD * count) as u64)
+        .expect("the file is lengthened");
+    let limits = "ulimit -v 16384 && ulimit -s 512";
+    let output = run(after(limits, "frames").arg(&passes).arg(&records), &[]);
+    assert_eq!(String::from_utf8_lossy(&output.stderr), "");
+    assert!(output.stdout == b"pass\n".repeat(count), "the lines differ");
+    let output = run(
+        &mut after("ulimit -v 16384 && ulimit -s 128", "sheet"),
+        &PASSES,
+    );
+    assert_eq!(output.stdout, PASSES_SHEET);
+}
+
 // frames: standard output that takes nothing
 
 /// Records without end, and a reader that takes one line.
@@ -405,10 +442,8 @@ fn a_reader_that_leaves() {
     let folder = folder("a_reader_that_leaves");
     let passes = file(&folder, "passes.rom", &PASSES);
     // With the signal of a closed pipe, and where that is ignored and the write fails.
-    for shell in ["exec \"$@\"", "trap '' PIPE; exec \"$@\""] {
-        let mut child = Command::new("sh")
-            .args(["-c", shell, "sh"])
-            .arg(program("frames"))
+    for shell in ["true", "trap '' PIPE"] {
+        let mut child = after(shell, "frames")
             .arg(&passes)
             .arg("/dev/zero")
             .stdout(Stdio::piped())
@@ -431,25 +466,51 @@ fn a_reader_that_leaves() {
     }
 }
 
+/// Records without end, and an output that takes no more: the program says so and ends.
+fn assert_gives_up(rom: &Path, output: Stdio) {
+    let mut child = frames()
+        .arg(rom)
+        .arg("/dev/zero")
+        .stdout(output)
+        .stderr(Stdio::piped())
+        .spawn()
+        .expect("the program starts");
+    assert!(ends(&mut child), "frames goes on though nothing is written");
+    let mut said = String::new();
+    child.stderr.unwrap().read_to_string(&mut said).unwrap();
+    assert!(said.starts_with("standard output: "), "{said:?}");
+    assert_eq!(said.lines().count(), 1);
+}
+
 #[test]
 fn a_full_device() {
     let folder = folder("a_full_device");
     let passes = file(&folder, "passes.rom", &PASSES);
     let empty = file(&folder, "empty.rom", &[]);
     for rom in [&passes, &empty] {
-        let mut child = frames()
-            .arg(rom)
-            .arg("/dev/zero")
-            .stdout(File::options().write(true).open("/dev/full").unwrap())
-            .stderr(Stdio::piped())
-            .spawn()
-            .expect("the program starts");
-        assert!(ends(&mut child), "frames goes on though nothing is written");
-        let mut said = String::new();
-        child.stderr.unwrap().read_to_string(&mut said).unwrap();
-        assert!(said.starts_with("standard output: "), "{said:?}");
-        assert_eq!(said.lines().count(), 1);
+        let full = File::options().write(true).open("/dev/full").unwrap();
+        assert_gives_up(rom, full.into());
     }
+}
+
+/// Two ends of a connection; the second one does not wait.
+fn impatient() -> (UnixStream, OwnedFd) {
+    let (ours, theirs) = UnixStream::pair().expect("a pair of sockets");
+    theirs.set_nonblocking(true).expect("it does not wait");
+    (ours, theirs.into())
+}
+
+/// What has been written before it is full is there.
+#[test]
+fn an_output_that_does_not_wait() {
+    let folder = folder("an_output_that_does_not_wait");
+    let passes = file(&folder, "passes.rom", &PASSES);
+    let (mut ours, theirs) = impatient();
+    assert_gives_up(&passes, theirs.into());
+    let mut lines = Vec::new();
+    ours.read_to_end(&mut lines).expect("the lines are read");
+    let expected = b"pass\n".repeat(lines.len().div_ceil(5));
+    assert!(!lines.is_empty() && lines == expected[..lines.len()]);
 }
 
 // The example
@@ -548,12 +609,8 @@ fn sheets_beside_the_second_admission() {
     for turn in 0..programs {
         let length = any_length(&mut random, ADMIT_LIMIT + 1);
         let code = any(&mut random, turn, length);
-        let mut expected = vec![0; SHEET_RECORD * code.len()];
-        if second_admission::admit(&code, &mut expected) == 0 {
-            admitted += 1;
-        } else {
-            expected.clear();
-        }
+        let expected = expected_sheet(&code);
+        admitted += usize::from(!expected.is_empty());
         assert!(sheet_of(&code) == expected, "turn {turn}");
     }
     say(&format!("sheet: {admitted} of {programs} are admitted"));
@@ -584,6 +641,11 @@ fn sheet_says_what_it_can_not_read_or_write() {
         .expect("the program runs");
     assert_only_complains(&output, "standard input: ");
 
+    // Nothing is there yet, and it does not wait.
+    let (_ours, theirs) = impatient();
+    let output = sheet().stdin(theirs).output().expect("the program runs");
+    assert_only_complains(&output, "standard input: ");
+
     let passes = file(&folder, "passes.rom", &PASSES);
     let output = sheet()
         .stdin(File::open(&passes).unwrap())
@@ -593,4 +655,101 @@ fn sheet_says_what_it_can_not_read_or_write() {
         .and_then(|child| child.wait_with_output())
         .expect("the program runs");
     assert_only_complains(&output, "standard output: ");
+}
+
+// Both, under valgrind
+
+/// A run, and what it should write on standard output and, if something is wrong, say.
+struct Watched {
+    program: &'static str,
+    arguments: Vec<PathBuf>,
+    input: Vec<u8>,
+    out: Vec<u8>,
+    words: Option<&'static str>,
+}
+
+fn watched_frames(program: &Path, records: &Path, words: Option<&'static str>) -> Watched {
+    let out = match words {
+        None => expected(
+            &fs::read(program).expect("the program"),
+            &fs::read(records).expect("the records"),
+        ),
+        Some(_) => String::new(),
+    };
+    Watched {
+        program: "frames",
+        arguments: vec![program.to_owned(), records.to_owned()],
+        input: Vec::new(),
+        out: out.into_bytes(),
+        words,
+    }
+}
+
+fn watched_sheet(input: &[u8]) -> Watched {
+    Watched {
+        program: "sheet",
+        arguments: Vec::new(),
+        input: input.to_vec(),
+        out: expected_sheet(input),
+        words: None,
+    }
+}
+
+/// No byte is used that was never set, and none outside of what there is.
+#[test]
+fn valgrind_has_nothing_to_say() {
+    if Command::new("valgrind").arg("--version").output().is_err() {
+        say("passed over: the programs under valgrind, for there is no valgrind");
+        return;
+    }
+    let folder = folder("valgrind_has_nothing_to_say");
+    let mut random = Random::new(seed());
+    // A program of every kind with some records, more than a block with a short one.
+    let filter = assemble("LIT 82 LDZ LIT f2 DEO BRK");
+    let quick = file(&folder, "quick.rom", &filter);
+    let mut bytes: Vec<u8> = (0..1_030)
+        .flat_map(|_| random_record(&mut random))
+        .collect();
+    let many = file(&folder, "many.bin", &bytes);
+    bytes.truncate(4 * RECORD + 30);
+    let few = file(&folder, "few.bin", &bytes);
+    let mut runs = vec![
+        watched_frames(&example("filter.rom"), &example("records.bin"), None),
+        watched_frames(&quick, &many, None),
+        watched_frames(&quick, &folder, Some("valgrind_has_nothing_to_say: ")),
+    ];
+    for (turn, length) in [(0, PROGRAM_LIMIT), (1, 1), (0, PROGRAM_LIMIT + 1)] {
+        let code = either(&mut random, turn, length, true);
+        let rom = file(&folder, &format!("{turn}-{length}.rom"), &code);
+        runs.push(watched_frames(&rom, &few, None));
+    }
+    for (turn, length) in [(0, 2_000), (2, ADMIT_LIMIT), (0, ADMIT_LIMIT + 1)] {
+        runs.push(watched_sheet(&any(&mut random, turn, length)));
+    }
+
+    let next = Mutex::new(runs.iter());
+    let watch = || loop {
+        let Some(watched) = next.lock().unwrap().next() else {
+            return;
+        };
+        let mut command = Command::new("valgrind");
+        command
+            .args(["--error-exitcode=9", "-q"])
+            .arg(program(watched.program))
+            .args(&watched.arguments);
+        let output = run(&mut command, &watched.input);
+        let said = String::from_utf8_lossy(&output.stderr);
+        assert!(output.status.success(), "{command:?}: {said}");
+        assert!(output.stdout == watched.out, "{command:?}");
+        match watched.words {
+            None => assert_eq!(said, "", "{command:?}"),
+            Some(words) => assert_only_complains(&output, words),
+        }
+    };
+    thread::scope(|scope| {
+        for _ in 0..2 {
+            scope.spawn(watch);
+        }
+    });
+    say(&format!("valgrind: {} runs", runs.len()));
 }

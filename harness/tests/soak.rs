@@ -1,15 +1,13 @@
 //! A soak: rounds of every kind of call, each with a seed of its own. SOAK gives its minutes;
-//! without it the soak is a few seconds long. SEED gives the first seed; a soak of minutes without
-//! it takes one from the clock.
-
-use std::time::{Duration, Instant, SystemTime, UNIX_EPOCH};
+//! without it the soak is a few seconds long.
 
 use uxn_filter_harness::admissions::Admissions;
 use uxn_filter_harness::calls::{ADMIT_LIMIT, BROKE, PROGRAM_LIMIT, RECORD};
 use uxn_filter_harness::filters::{any, any_length, filter};
-use uxn_filter_harness::pair::{say, Pair, Part};
+use uxn_filter_harness::pair::{Pair, Part};
 use uxn_filter_harness::programs::{grammar_made, random_bytes};
-use uxn_filter_harness::random::{given, Random};
+use uxn_filter_harness::random::Random;
+use uxn_filter_harness::soak::rounds;
 use uxn_filter_harness::watch::{any_record, Watch, Watched};
 
 /// How many steps and admissions were compared, and steps watched.
@@ -33,45 +31,17 @@ impl Total {
 
 #[test]
 fn soak() {
-    let minutes = given("SOAK");
-    let time = match minutes {
-        Some(minutes) => Duration::from_secs(60 * minutes),
-        None => Duration::from_secs(3),
-    };
-    let first = match (given("SEED"), minutes) {
-        (Some(seed), _) => seed,
-        (None, Some(_)) => clock(),
-        (None, None) => 1,
-    };
-    let start = Instant::now();
-    let mut said = start;
-    let mut seed = first;
-    let mut total = Total::default();
-    while start.elapsed() < time {
-        total.steps += round(seed);
+    let round = |seed, total: &mut Total| {
+        total.steps += machine_round(seed);
         total.admissions += admission_round(seed);
         total.watched += watched_round(seed);
-        seed = seed.wrapping_add(1);
-        if said.elapsed() > Duration::from_secs(60) {
-            said = Instant::now();
-            say(&format!("soak: seeds {first} to {seed}, {}", total.text()));
-        }
-    }
-    let rounds = seed.wrapping_sub(first);
-    say(&format!(
-        "soak: {rounds} rounds from seed {first}, {}",
-        total.text()
-    ));
-}
-
-fn clock() -> u64 {
-    let now = SystemTime::now().duration_since(UNIX_EPOCH).unwrap();
-    now.as_secs()
+    };
+    rounds("soak", round, Total::text);
 }
 
 /// Some thousands of compared steps, whose number it returns, and some compared calls of every
 /// kind.
-fn round(seed: u64) -> u64 {
+fn machine_round(seed: u64) -> u64 {
     let mut pair = Pair::new(seed);
     let mut random = Random::new(seed);
 
