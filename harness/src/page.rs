@@ -48,14 +48,18 @@ pub fn cells(line: &str) -> Vec<String> {
     line.split('|').map(|cell| cell.trim().to_owned()).collect()
 }
 
-/// The rows of the table that has this head.
+/// The rows of the table that has this head, or of all tables that have it.
 pub fn table(page: &str, head: &str) -> Vec<Vec<String>> {
-    let Some((_, below)) = page.split_once(&format!("\n{head}\n")) else {
-        panic!("the page has no table {head}");
-    };
-    let rows = below.lines().skip(1).map_while(|line| {
-        let row = line.strip_prefix('|')?.strip_suffix('|')?;
-        Some(cells(row))
-    });
-    rows.collect()
+    let mut rows = Vec::new();
+    let mut lines = page.lines();
+    while lines.by_ref().any(|line| line == head) {
+        // The line below the head.
+        lines.next();
+        rows.extend(lines.by_ref().map_while(|line| {
+            let row = line.strip_prefix('|')?.strip_suffix('|')?;
+            Some(cells(row))
+        }));
+    }
+    assert!(!rows.is_empty(), "the page has no table {head}");
+    rows
 }

@@ -4,31 +4,31 @@ use model::Machine;
 use model::StepReply;
 use operations::compare;
 use operations::compute;
-use operations::dei;
-use operations::deo;
 use operations::dup;
 use operations::inc;
-use operations::jci;
-use operations::jcn;
-use operations::jmp;
-use operations::lda;
-use operations::ldr;
-use operations::ldz;
-use operations::lit;
 use operations::nip;
-use operations::offset;
 use operations::ovr;
 use operations::pop;
 use operations::rot;
 use operations::sft;
-use operations::sta;
-use operations::sth;
-use operations::str;
-use operations::stz;
 use operations::swp;
 use stack::lower;
 use stack::push;
 use std::num::wrapping_add_u16;
+use transfers::dei;
+use transfers::deo;
+use transfers::jci;
+use transfers::jcn;
+use transfers::jmp;
+use transfers::lda;
+use transfers::ldr;
+use transfers::ldz;
+use transfers::lit;
+use transfers::offset;
+use transfers::sta;
+use transfers::sth;
+use transfers::str;
+use transfers::stz;
 ghost use mathlib.Core.Path.{_≡_};
 ghost use Prim.Native.Nat.{_<_};
 ghost use Rattle.model.specs.Machine.{state, Sized};
@@ -51,761 +51,272 @@ pub fn execute(
         ≡ executed (byteOf key keep) (state (now (memory .entry)) (now (devices .entry)) (now (work .entry)) (now (ret .entry)) m) ⌝ }
 {
     let at = m.pc;
-    let pc = wrapping_add_u16(at, 1);
-    let wp = m.wp;
-    let rp = m.rp;
+    let mut pc = wrapping_add_u16(at, 1);
+    let mut wp = m.wp;
+    let mut rp = m.rp;
     match key {
         0x00 => {
             if keep {
-                StepReply::WentOn(Machine {
-                    pc: wrapping_add_u16(at, 2),
-                    wp: lit(memory, work, at, wp, false),
-                    rp,
-                })
+                pc = wrapping_add_u16(at, 2);
+                wp = lit(memory, work, at, wp, false);
             } else {
-                StepReply::Broke(Machine { pc, wp, rp })
+                return StepReply::Broke(Machine { pc, wp, rp });
             }
         }
-        0x01 => StepReply::WentOn(Machine {
-            pc,
-            wp: inc(work, wp, false, keep),
-            rp,
-        }),
-        0x02 => StepReply::WentOn(Machine {
-            pc,
-            wp: pop(work, wp, false, keep),
-            rp,
-        }),
-        0x03 => StepReply::WentOn(Machine {
-            pc,
-            wp: nip(work, wp, false, keep),
-            rp,
-        }),
-        0x04 => StepReply::WentOn(Machine {
-            pc,
-            wp: swp(work, wp, false, keep),
-            rp,
-        }),
-        0x05 => StepReply::WentOn(Machine {
-            pc,
-            wp: rot(work, wp, false, keep),
-            rp,
-        }),
-        0x06 => StepReply::WentOn(Machine {
-            pc,
-            wp: dup(work, wp, false, keep),
-            rp,
-        }),
-        0x07 => StepReply::WentOn(Machine {
-            pc,
-            wp: ovr(work, wp, false, keep),
-            rp,
-        }),
-        0x08 => StepReply::WentOn(Machine {
-            pc,
-            wp: compare(work, wp, false, keep, 0),
-            rp,
-        }),
-        0x09 => StepReply::WentOn(Machine {
-            pc,
-            wp: compare(work, wp, false, keep, 1),
-            rp,
-        }),
-        0x0a => StepReply::WentOn(Machine {
-            pc,
-            wp: compare(work, wp, false, keep, 2),
-            rp,
-        }),
-        0x0b => StepReply::WentOn(Machine {
-            pc,
-            wp: compare(work, wp, false, keep, 3),
-            rp,
-        }),
-        0x0c => StepReply::WentOn(Machine {
-            pc: jmp(work, wp, pc, false),
-            wp: lower(wp, keep, 1),
-            rp,
-        }),
-        0x0d => StepReply::WentOn(Machine {
-            pc: jcn(work, wp, pc, false),
-            wp: lower(wp, keep, 2),
-            rp,
-        }),
+        0x01 => wp = inc(work, wp, false, keep),
+        0x02 => wp = pop(work, wp, false, keep),
+        0x03 => wp = nip(work, wp, false, keep),
+        0x04 => wp = swp(work, wp, false, keep),
+        0x05 => wp = rot(work, wp, false, keep),
+        0x06 => wp = dup(work, wp, false, keep),
+        0x07 => wp = ovr(work, wp, false, keep),
+        0x08 => wp = compare(work, wp, false, keep, 0),
+        0x09 => wp = compare(work, wp, false, keep, 1),
+        0x0a => wp = compare(work, wp, false, keep, 2),
+        0x0b => wp = compare(work, wp, false, keep, 3),
+        0x0c => {
+            pc = jmp(work, wp, pc, false);
+            wp = lower(wp, keep, 1);
+        }
+        0x0d => {
+            pc = jcn(work, wp, pc, false);
+            wp = lower(wp, keep, 2);
+        }
         0x0e => {
             let target = jmp(work, wp, pc, false);
-            let up = push(ret, rp, true, pc);
-            StepReply::WentOn(Machine {
-                pc: target,
-                wp: lower(wp, keep, 1),
-                rp: up,
-            })
+            rp = push(ret, rp, true, pc);
+            pc = target;
+            wp = lower(wp, keep, 1);
         }
         0x0f => {
-            let up = sth(work, wp, ret, rp, false);
-            StepReply::WentOn(Machine {
-                pc,
-                wp: lower(wp, keep, 1),
-                rp: up,
-            })
+            rp = sth(work, wp, ret, rp, false);
+            wp = lower(wp, keep, 1);
         }
-        0x10 => StepReply::WentOn(Machine {
-            pc,
-            wp: ldz(memory, work, wp, false, keep),
-            rp,
-        }),
+        0x10 => wp = ldz(memory, work, wp, false, keep),
         0x11 => {
             stz(memory, work, wp, false);
-            StepReply::WentOn(Machine {
-                pc,
-                wp: lower(wp, keep, 2),
-                rp,
-            })
+            wp = lower(wp, keep, 2);
         }
-        0x12 => StepReply::WentOn(Machine {
-            pc,
-            wp: ldr(memory, work, pc, wp, false, keep),
-            rp,
-        }),
+        0x12 => wp = ldr(memory, work, pc, wp, false, keep),
         0x13 => {
             str(memory, work, pc, wp, false);
-            StepReply::WentOn(Machine {
-                pc,
-                wp: lower(wp, keep, 2),
-                rp,
-            })
+            wp = lower(wp, keep, 2);
         }
-        0x14 => StepReply::WentOn(Machine {
-            pc,
-            wp: lda(memory, work, wp, false, keep),
-            rp,
-        }),
+        0x14 => wp = lda(memory, work, wp, false, keep),
         0x15 => {
             sta(memory, work, wp, false);
-            StepReply::WentOn(Machine {
-                pc,
-                wp: lower(wp, keep, 3),
-                rp,
-            })
+            wp = lower(wp, keep, 3);
         }
-        0x16 => StepReply::WentOn(Machine {
-            pc,
-            wp: dei(devices, work, wp, false, keep),
-            rp,
-        }),
+        0x16 => wp = dei(devices, work, wp, false, keep),
         0x17 => {
             deo(devices, work, wp, false);
-            StepReply::WentOn(Machine {
-                pc,
-                wp: lower(wp, keep, 2),
-                rp,
-            })
+            wp = lower(wp, keep, 2);
         }
-        0x18 => StepReply::WentOn(Machine {
-            pc,
-            wp: compute(work, wp, false, keep, 0),
-            rp,
-        }),
-        0x19 => StepReply::WentOn(Machine {
-            pc,
-            wp: compute(work, wp, false, keep, 1),
-            rp,
-        }),
-        0x1a => StepReply::WentOn(Machine {
-            pc,
-            wp: compute(work, wp, false, keep, 2),
-            rp,
-        }),
-        0x1b => StepReply::WentOn(Machine {
-            pc,
-            wp: compute(work, wp, false, keep, 3),
-            rp,
-        }),
-        0x1c => StepReply::WentOn(Machine {
-            pc,
-            wp: compute(work, wp, false, keep, 4),
-            rp,
-        }),
-        0x1d => StepReply::WentOn(Machine {
-            pc,
-            wp: compute(work, wp, false, keep, 5),
-            rp,
-        }),
-        0x1e => StepReply::WentOn(Machine {
-            pc,
-            wp: compute(work, wp, false, keep, 6),
-            rp,
-        }),
-        0x1f => StepReply::WentOn(Machine {
-            pc,
-            wp: sft(work, wp, false, keep),
-            rp,
-        }),
+        0x18 => wp = compute(work, wp, false, keep, 0),
+        0x19 => wp = compute(work, wp, false, keep, 1),
+        0x1a => wp = compute(work, wp, false, keep, 2),
+        0x1b => wp = compute(work, wp, false, keep, 3),
+        0x1c => wp = compute(work, wp, false, keep, 4),
+        0x1d => wp = compute(work, wp, false, keep, 5),
+        0x1e => wp = compute(work, wp, false, keep, 6),
+        0x1f => wp = sft(work, wp, false, keep),
         0x20 => {
             if keep {
-                StepReply::WentOn(Machine {
-                    pc: wrapping_add_u16(at, 3),
-                    wp: lit(memory, work, at, wp, true),
-                    rp,
-                })
+                pc = wrapping_add_u16(at, 3);
+                wp = lit(memory, work, at, wp, true);
             } else {
-                StepReply::WentOn(Machine {
-                    pc: jci(memory, work, at, wp),
-                    wp: lower(wp, false, 1),
-                    rp,
-                })
+                pc = jci(memory, work, at, wp);
+                wp = lower(wp, false, 1);
             }
         }
-        0x21 => StepReply::WentOn(Machine {
-            pc,
-            wp: inc(work, wp, true, keep),
-            rp,
-        }),
-        0x22 => StepReply::WentOn(Machine {
-            pc,
-            wp: pop(work, wp, true, keep),
-            rp,
-        }),
-        0x23 => StepReply::WentOn(Machine {
-            pc,
-            wp: nip(work, wp, true, keep),
-            rp,
-        }),
-        0x24 => StepReply::WentOn(Machine {
-            pc,
-            wp: swp(work, wp, true, keep),
-            rp,
-        }),
-        0x25 => StepReply::WentOn(Machine {
-            pc,
-            wp: rot(work, wp, true, keep),
-            rp,
-        }),
-        0x26 => StepReply::WentOn(Machine {
-            pc,
-            wp: dup(work, wp, true, keep),
-            rp,
-        }),
-        0x27 => StepReply::WentOn(Machine {
-            pc,
-            wp: ovr(work, wp, true, keep),
-            rp,
-        }),
-        0x28 => StepReply::WentOn(Machine {
-            pc,
-            wp: compare(work, wp, true, keep, 0),
-            rp,
-        }),
-        0x29 => StepReply::WentOn(Machine {
-            pc,
-            wp: compare(work, wp, true, keep, 1),
-            rp,
-        }),
-        0x2a => StepReply::WentOn(Machine {
-            pc,
-            wp: compare(work, wp, true, keep, 2),
-            rp,
-        }),
-        0x2b => StepReply::WentOn(Machine {
-            pc,
-            wp: compare(work, wp, true, keep, 3),
-            rp,
-        }),
-        0x2c => StepReply::WentOn(Machine {
-            pc: jmp(work, wp, pc, true),
-            wp: lower(wp, keep, 2),
-            rp,
-        }),
-        0x2d => StepReply::WentOn(Machine {
-            pc: jcn(work, wp, pc, true),
-            wp: lower(wp, keep, 3),
-            rp,
-        }),
+        0x21 => wp = inc(work, wp, true, keep),
+        0x22 => wp = pop(work, wp, true, keep),
+        0x23 => wp = nip(work, wp, true, keep),
+        0x24 => wp = swp(work, wp, true, keep),
+        0x25 => wp = rot(work, wp, true, keep),
+        0x26 => wp = dup(work, wp, true, keep),
+        0x27 => wp = ovr(work, wp, true, keep),
+        0x28 => wp = compare(work, wp, true, keep, 0),
+        0x29 => wp = compare(work, wp, true, keep, 1),
+        0x2a => wp = compare(work, wp, true, keep, 2),
+        0x2b => wp = compare(work, wp, true, keep, 3),
+        0x2c => {
+            pc = jmp(work, wp, pc, true);
+            wp = lower(wp, keep, 2);
+        }
+        0x2d => {
+            pc = jcn(work, wp, pc, true);
+            wp = lower(wp, keep, 3);
+        }
         0x2e => {
             let target = jmp(work, wp, pc, true);
-            let up = push(ret, rp, true, pc);
-            StepReply::WentOn(Machine {
-                pc: target,
-                wp: lower(wp, keep, 2),
-                rp: up,
-            })
+            rp = push(ret, rp, true, pc);
+            pc = target;
+            wp = lower(wp, keep, 2);
         }
         0x2f => {
-            let up = sth(work, wp, ret, rp, true);
-            StepReply::WentOn(Machine {
-                pc,
-                wp: lower(wp, keep, 2),
-                rp: up,
-            })
+            rp = sth(work, wp, ret, rp, true);
+            wp = lower(wp, keep, 2);
         }
-        0x30 => StepReply::WentOn(Machine {
-            pc,
-            wp: ldz(memory, work, wp, true, keep),
-            rp,
-        }),
+        0x30 => wp = ldz(memory, work, wp, true, keep),
         0x31 => {
             stz(memory, work, wp, true);
-            StepReply::WentOn(Machine {
-                pc,
-                wp: lower(wp, keep, 3),
-                rp,
-            })
+            wp = lower(wp, keep, 3);
         }
-        0x32 => StepReply::WentOn(Machine {
-            pc,
-            wp: ldr(memory, work, pc, wp, true, keep),
-            rp,
-        }),
+        0x32 => wp = ldr(memory, work, pc, wp, true, keep),
         0x33 => {
             str(memory, work, pc, wp, true);
-            StepReply::WentOn(Machine {
-                pc,
-                wp: lower(wp, keep, 3),
-                rp,
-            })
+            wp = lower(wp, keep, 3);
         }
-        0x34 => StepReply::WentOn(Machine {
-            pc,
-            wp: lda(memory, work, wp, true, keep),
-            rp,
-        }),
+        0x34 => wp = lda(memory, work, wp, true, keep),
         0x35 => {
             sta(memory, work, wp, true);
-            StepReply::WentOn(Machine {
-                pc,
-                wp: lower(wp, keep, 4),
-                rp,
-            })
+            wp = lower(wp, keep, 4);
         }
-        0x36 => StepReply::WentOn(Machine {
-            pc,
-            wp: dei(devices, work, wp, true, keep),
-            rp,
-        }),
+        0x36 => wp = dei(devices, work, wp, true, keep),
         0x37 => {
             deo(devices, work, wp, true);
-            StepReply::WentOn(Machine {
-                pc,
-                wp: lower(wp, keep, 3),
-                rp,
-            })
+            wp = lower(wp, keep, 3);
         }
-        0x38 => StepReply::WentOn(Machine {
-            pc,
-            wp: compute(work, wp, true, keep, 0),
-            rp,
-        }),
-        0x39 => StepReply::WentOn(Machine {
-            pc,
-            wp: compute(work, wp, true, keep, 1),
-            rp,
-        }),
-        0x3a => StepReply::WentOn(Machine {
-            pc,
-            wp: compute(work, wp, true, keep, 2),
-            rp,
-        }),
-        0x3b => StepReply::WentOn(Machine {
-            pc,
-            wp: compute(work, wp, true, keep, 3),
-            rp,
-        }),
-        0x3c => StepReply::WentOn(Machine {
-            pc,
-            wp: compute(work, wp, true, keep, 4),
-            rp,
-        }),
-        0x3d => StepReply::WentOn(Machine {
-            pc,
-            wp: compute(work, wp, true, keep, 5),
-            rp,
-        }),
-        0x3e => StepReply::WentOn(Machine {
-            pc,
-            wp: compute(work, wp, true, keep, 6),
-            rp,
-        }),
-        0x3f => StepReply::WentOn(Machine {
-            pc,
-            wp: sft(work, wp, true, keep),
-            rp,
-        }),
+        0x38 => wp = compute(work, wp, true, keep, 0),
+        0x39 => wp = compute(work, wp, true, keep, 1),
+        0x3a => wp = compute(work, wp, true, keep, 2),
+        0x3b => wp = compute(work, wp, true, keep, 3),
+        0x3c => wp = compute(work, wp, true, keep, 4),
+        0x3d => wp = compute(work, wp, true, keep, 5),
+        0x3e => wp = compute(work, wp, true, keep, 6),
+        0x3f => wp = sft(work, wp, true, keep),
         0x40 => {
             if keep {
-                StepReply::WentOn(Machine {
-                    pc: wrapping_add_u16(at, 2),
-                    wp,
-                    rp: lit(memory, ret, at, rp, false),
-                })
+                pc = wrapping_add_u16(at, 2);
+                rp = lit(memory, ret, at, rp, false);
             } else {
-                StepReply::WentOn(Machine {
-                    pc: offset(memory, at),
-                    wp,
-                    rp,
-                })
+                pc = offset(memory, at);
             }
         }
-        0x41 => StepReply::WentOn(Machine {
-            pc,
-            wp,
-            rp: inc(ret, rp, false, keep),
-        }),
-        0x42 => StepReply::WentOn(Machine {
-            pc,
-            wp,
-            rp: pop(ret, rp, false, keep),
-        }),
-        0x43 => StepReply::WentOn(Machine {
-            pc,
-            wp,
-            rp: nip(ret, rp, false, keep),
-        }),
-        0x44 => StepReply::WentOn(Machine {
-            pc,
-            wp,
-            rp: swp(ret, rp, false, keep),
-        }),
-        0x45 => StepReply::WentOn(Machine {
-            pc,
-            wp,
-            rp: rot(ret, rp, false, keep),
-        }),
-        0x46 => StepReply::WentOn(Machine {
-            pc,
-            wp,
-            rp: dup(ret, rp, false, keep),
-        }),
-        0x47 => StepReply::WentOn(Machine {
-            pc,
-            wp,
-            rp: ovr(ret, rp, false, keep),
-        }),
-        0x48 => StepReply::WentOn(Machine {
-            pc,
-            wp,
-            rp: compare(ret, rp, false, keep, 0),
-        }),
-        0x49 => StepReply::WentOn(Machine {
-            pc,
-            wp,
-            rp: compare(ret, rp, false, keep, 1),
-        }),
-        0x4a => StepReply::WentOn(Machine {
-            pc,
-            wp,
-            rp: compare(ret, rp, false, keep, 2),
-        }),
-        0x4b => StepReply::WentOn(Machine {
-            pc,
-            wp,
-            rp: compare(ret, rp, false, keep, 3),
-        }),
-        0x4c => StepReply::WentOn(Machine {
-            pc: jmp(ret, rp, pc, false),
-            wp,
-            rp: lower(rp, keep, 1),
-        }),
-        0x4d => StepReply::WentOn(Machine {
-            pc: jcn(ret, rp, pc, false),
-            wp,
-            rp: lower(rp, keep, 2),
-        }),
+        0x41 => rp = inc(ret, rp, false, keep),
+        0x42 => rp = pop(ret, rp, false, keep),
+        0x43 => rp = nip(ret, rp, false, keep),
+        0x44 => rp = swp(ret, rp, false, keep),
+        0x45 => rp = rot(ret, rp, false, keep),
+        0x46 => rp = dup(ret, rp, false, keep),
+        0x47 => rp = ovr(ret, rp, false, keep),
+        0x48 => rp = compare(ret, rp, false, keep, 0),
+        0x49 => rp = compare(ret, rp, false, keep, 1),
+        0x4a => rp = compare(ret, rp, false, keep, 2),
+        0x4b => rp = compare(ret, rp, false, keep, 3),
+        0x4c => {
+            pc = jmp(ret, rp, pc, false);
+            rp = lower(rp, keep, 1);
+        }
+        0x4d => {
+            pc = jcn(ret, rp, pc, false);
+            rp = lower(rp, keep, 2);
+        }
         0x4e => {
             let target = jmp(ret, rp, pc, false);
-            let up = push(work, wp, true, pc);
-            StepReply::WentOn(Machine {
-                pc: target,
-                wp: up,
-                rp: lower(rp, keep, 1),
-            })
+            wp = push(work, wp, true, pc);
+            pc = target;
+            rp = lower(rp, keep, 1);
         }
         0x4f => {
-            let up = sth(ret, rp, work, wp, false);
-            StepReply::WentOn(Machine {
-                pc,
-                wp: up,
-                rp: lower(rp, keep, 1),
-            })
+            wp = sth(ret, rp, work, wp, false);
+            rp = lower(rp, keep, 1);
         }
-        0x50 => StepReply::WentOn(Machine {
-            pc,
-            wp,
-            rp: ldz(memory, ret, rp, false, keep),
-        }),
+        0x50 => rp = ldz(memory, ret, rp, false, keep),
         0x51 => {
             stz(memory, ret, rp, false);
-            StepReply::WentOn(Machine {
-                pc,
-                wp,
-                rp: lower(rp, keep, 2),
-            })
+            rp = lower(rp, keep, 2);
         }
-        0x52 => StepReply::WentOn(Machine {
-            pc,
-            wp,
-            rp: ldr(memory, ret, pc, rp, false, keep),
-        }),
+        0x52 => rp = ldr(memory, ret, pc, rp, false, keep),
         0x53 => {
             str(memory, ret, pc, rp, false);
-            StepReply::WentOn(Machine {
-                pc,
-                wp,
-                rp: lower(rp, keep, 2),
-            })
+            rp = lower(rp, keep, 2);
         }
-        0x54 => StepReply::WentOn(Machine {
-            pc,
-            wp,
-            rp: lda(memory, ret, rp, false, keep),
-        }),
+        0x54 => rp = lda(memory, ret, rp, false, keep),
         0x55 => {
             sta(memory, ret, rp, false);
-            StepReply::WentOn(Machine {
-                pc,
-                wp,
-                rp: lower(rp, keep, 3),
-            })
+            rp = lower(rp, keep, 3);
         }
-        0x56 => StepReply::WentOn(Machine {
-            pc,
-            wp,
-            rp: dei(devices, ret, rp, false, keep),
-        }),
+        0x56 => rp = dei(devices, ret, rp, false, keep),
         0x57 => {
             deo(devices, ret, rp, false);
-            StepReply::WentOn(Machine {
-                pc,
-                wp,
-                rp: lower(rp, keep, 2),
-            })
+            rp = lower(rp, keep, 2);
         }
-        0x58 => StepReply::WentOn(Machine {
-            pc,
-            wp,
-            rp: compute(ret, rp, false, keep, 0),
-        }),
-        0x59 => StepReply::WentOn(Machine {
-            pc,
-            wp,
-            rp: compute(ret, rp, false, keep, 1),
-        }),
-        0x5a => StepReply::WentOn(Machine {
-            pc,
-            wp,
-            rp: compute(ret, rp, false, keep, 2),
-        }),
-        0x5b => StepReply::WentOn(Machine {
-            pc,
-            wp,
-            rp: compute(ret, rp, false, keep, 3),
-        }),
-        0x5c => StepReply::WentOn(Machine {
-            pc,
-            wp,
-            rp: compute(ret, rp, false, keep, 4),
-        }),
-        0x5d => StepReply::WentOn(Machine {
-            pc,
-            wp,
-            rp: compute(ret, rp, false, keep, 5),
-        }),
-        0x5e => StepReply::WentOn(Machine {
-            pc,
-            wp,
-            rp: compute(ret, rp, false, keep, 6),
-        }),
-        0x5f => StepReply::WentOn(Machine {
-            pc,
-            wp,
-            rp: sft(ret, rp, false, keep),
-        }),
+        0x58 => rp = compute(ret, rp, false, keep, 0),
+        0x59 => rp = compute(ret, rp, false, keep, 1),
+        0x5a => rp = compute(ret, rp, false, keep, 2),
+        0x5b => rp = compute(ret, rp, false, keep, 3),
+        0x5c => rp = compute(ret, rp, false, keep, 4),
+        0x5d => rp = compute(ret, rp, false, keep, 5),
+        0x5e => rp = compute(ret, rp, false, keep, 6),
+        0x5f => rp = sft(ret, rp, false, keep),
         0x60 => {
             if keep {
-                StepReply::WentOn(Machine {
-                    pc: wrapping_add_u16(at, 3),
-                    wp,
-                    rp: lit(memory, ret, at, rp, true),
-                })
+                pc = wrapping_add_u16(at, 3);
+                rp = lit(memory, ret, at, rp, true);
             } else {
-                StepReply::WentOn(Machine {
-                    pc: offset(memory, at),
-                    wp,
-                    rp: push(ret, rp, true, wrapping_add_u16(at, 3)),
-                })
+                pc = offset(memory, at);
+                rp = push(ret, rp, true, wrapping_add_u16(at, 3));
             }
         }
-        0x61 => StepReply::WentOn(Machine {
-            pc,
-            wp,
-            rp: inc(ret, rp, true, keep),
-        }),
-        0x62 => StepReply::WentOn(Machine {
-            pc,
-            wp,
-            rp: pop(ret, rp, true, keep),
-        }),
-        0x63 => StepReply::WentOn(Machine {
-            pc,
-            wp,
-            rp: nip(ret, rp, true, keep),
-        }),
-        0x64 => StepReply::WentOn(Machine {
-            pc,
-            wp,
-            rp: swp(ret, rp, true, keep),
-        }),
-        0x65 => StepReply::WentOn(Machine {
-            pc,
-            wp,
-            rp: rot(ret, rp, true, keep),
-        }),
-        0x66 => StepReply::WentOn(Machine {
-            pc,
-            wp,
-            rp: dup(ret, rp, true, keep),
-        }),
-        0x67 => StepReply::WentOn(Machine {
-            pc,
-            wp,
-            rp: ovr(ret, rp, true, keep),
-        }),
-        0x68 => StepReply::WentOn(Machine {
-            pc,
-            wp,
-            rp: compare(ret, rp, true, keep, 0),
-        }),
-        0x69 => StepReply::WentOn(Machine {
-            pc,
-            wp,
-            rp: compare(ret, rp, true, keep, 1),
-        }),
-        0x6a => StepReply::WentOn(Machine {
-            pc,
-            wp,
-            rp: compare(ret, rp, true, keep, 2),
-        }),
-        0x6b => StepReply::WentOn(Machine {
-            pc,
-            wp,
-            rp: compare(ret, rp, true, keep, 3),
-        }),
-        0x6c => StepReply::WentOn(Machine {
-            pc: jmp(ret, rp, pc, true),
-            wp,
-            rp: lower(rp, keep, 2),
-        }),
-        0x6d => StepReply::WentOn(Machine {
-            pc: jcn(ret, rp, pc, true),
-            wp,
-            rp: lower(rp, keep, 3),
-        }),
+        0x61 => rp = inc(ret, rp, true, keep),
+        0x62 => rp = pop(ret, rp, true, keep),
+        0x63 => rp = nip(ret, rp, true, keep),
+        0x64 => rp = swp(ret, rp, true, keep),
+        0x65 => rp = rot(ret, rp, true, keep),
+        0x66 => rp = dup(ret, rp, true, keep),
+        0x67 => rp = ovr(ret, rp, true, keep),
+        0x68 => rp = compare(ret, rp, true, keep, 0),
+        0x69 => rp = compare(ret, rp, true, keep, 1),
+        0x6a => rp = compare(ret, rp, true, keep, 2),
+        0x6b => rp = compare(ret, rp, true, keep, 3),
+        0x6c => {
+            pc = jmp(ret, rp, pc, true);
+            rp = lower(rp, keep, 2);
+        }
+        0x6d => {
+            pc = jcn(ret, rp, pc, true);
+            rp = lower(rp, keep, 3);
+        }
         0x6e => {
             let target = jmp(ret, rp, pc, true);
-            let up = push(work, wp, true, pc);
-            StepReply::WentOn(Machine {
-                pc: target,
-                wp: up,
-                rp: lower(rp, keep, 2),
-            })
+            wp = push(work, wp, true, pc);
+            pc = target;
+            rp = lower(rp, keep, 2);
         }
         0x6f => {
-            let up = sth(ret, rp, work, wp, true);
-            StepReply::WentOn(Machine {
-                pc,
-                wp: up,
-                rp: lower(rp, keep, 2),
-            })
+            wp = sth(ret, rp, work, wp, true);
+            rp = lower(rp, keep, 2);
         }
-        0x70 => StepReply::WentOn(Machine {
-            pc,
-            wp,
-            rp: ldz(memory, ret, rp, true, keep),
-        }),
+        0x70 => rp = ldz(memory, ret, rp, true, keep),
         0x71 => {
             stz(memory, ret, rp, true);
-            StepReply::WentOn(Machine {
-                pc,
-                wp,
-                rp: lower(rp, keep, 3),
-            })
+            rp = lower(rp, keep, 3);
         }
-        0x72 => StepReply::WentOn(Machine {
-            pc,
-            wp,
-            rp: ldr(memory, ret, pc, rp, true, keep),
-        }),
+        0x72 => rp = ldr(memory, ret, pc, rp, true, keep),
         0x73 => {
             str(memory, ret, pc, rp, true);
-            StepReply::WentOn(Machine {
-                pc,
-                wp,
-                rp: lower(rp, keep, 3),
-            })
+            rp = lower(rp, keep, 3);
         }
-        0x74 => StepReply::WentOn(Machine {
-            pc,
-            wp,
-            rp: lda(memory, ret, rp, true, keep),
-        }),
+        0x74 => rp = lda(memory, ret, rp, true, keep),
         0x75 => {
             sta(memory, ret, rp, true);
-            StepReply::WentOn(Machine {
-                pc,
-                wp,
-                rp: lower(rp, keep, 4),
-            })
+            rp = lower(rp, keep, 4);
         }
-        0x76 => StepReply::WentOn(Machine {
-            pc,
-            wp,
-            rp: dei(devices, ret, rp, true, keep),
-        }),
+        0x76 => rp = dei(devices, ret, rp, true, keep),
         0x77 => {
             deo(devices, ret, rp, true);
-            StepReply::WentOn(Machine {
-                pc,
-                wp,
-                rp: lower(rp, keep, 3),
-            })
+            rp = lower(rp, keep, 3);
         }
-        0x78 => StepReply::WentOn(Machine {
-            pc,
-            wp,
-            rp: compute(ret, rp, true, keep, 0),
-        }),
-        0x79 => StepReply::WentOn(Machine {
-            pc,
-            wp,
-            rp: compute(ret, rp, true, keep, 1),
-        }),
-        0x7a => StepReply::WentOn(Machine {
-            pc,
-            wp,
-            rp: compute(ret, rp, true, keep, 2),
-        }),
-        0x7b => StepReply::WentOn(Machine {
-            pc,
-            wp,
-            rp: compute(ret, rp, true, keep, 3),
-        }),
-        0x7c => StepReply::WentOn(Machine {
-            pc,
-            wp,
-            rp: compute(ret, rp, true, keep, 4),
-        }),
-        0x7d => StepReply::WentOn(Machine {
-            pc,
-            wp,
-            rp: compute(ret, rp, true, keep, 5),
-        }),
-        0x7e => StepReply::WentOn(Machine {
-            pc,
-            wp,
-            rp: compute(ret, rp, true, keep, 6),
-        }),
-        _ => StepReply::WentOn(Machine {
-            pc,
-            wp,
-            rp: sft(ret, rp, true, keep),
-        }),
+        0x78 => rp = compute(ret, rp, true, keep, 0),
+        0x79 => rp = compute(ret, rp, true, keep, 1),
+        0x7a => rp = compute(ret, rp, true, keep, 2),
+        0x7b => rp = compute(ret, rp, true, keep, 3),
+        0x7c => rp = compute(ret, rp, true, keep, 4),
+        0x7d => rp = compute(ret, rp, true, keep, 5),
+        0x7e => rp = compute(ret, rp, true, keep, 6),
+        _ => rp = sft(ret, rp, true, keep),
     }
+    StepReply::WentOn(Machine { pc, wp, rp })
 }

@@ -1,11 +1,11 @@
 -- The replies of the calls: a refusal, and what is done without one. Assumes nothing.
 use mathlib.Core.Path.{_≡_, refl, sym, ap, _∙_}
-use mathlib.Core.Bool.{Bool, true, false, cond, _||_}
+use mathlib.Core.Bool.{Bool, true, false, cond}
 use mathlib.Core.List.{List, [], _++_, append-nil}
-use Prim.Native.Nat.{ℕ, zero, suc, _+_, _*_, _≤_}
+use Prim.Native.Nat.{ℕ, zero, suc, _+_, _*_}
 use native.Mathlib.Omega.{arith}
-use lib.Dec.{eqb, ltb}
-use borrow.Author.Tests.{ne-eqb, ltb-false}
+use lib.Dec.{eqb}
+use borrow.Author.Tests.{ne-eqb}
 use lib.ListN.{length, getD, set, take, drop}
 use Rattle.model.specs.Bytes.{zeros, number, readRing}
 use Rattle.model.specs.Machine.{pageSize, start, State, state, Sized}
@@ -13,15 +13,15 @@ use Rattle.model.specs.Instruction.{size}
 use Rattle.model.specs.Step.{step, breaks}
 use Rattle.model.specs.Run.{Reply, reply, stepReply, run}
 use Rattle.model.specs.Run.Answer.{Refused, Loaded, WentOn, Broke, Spent, Ignored}
-use Rattle.model.specs.Calls.{refusal, hasLength, bufferRows, unless, from, loadMost, loadRows, load, eventRows, vector, frameSize, framePlace, verdictPort, frameRows, framed, withVerdict}
+use Rattle.model.specs.Calls.{refusal, bufferRows, unless, from, load, vector, framePlace, verdictPort, framed, withVerdict}
 use Rattle.model.specs.Replies.{ofStep, ofRun, ofEvent, ofFrame}
 use Rattle.model.specs.declared.Machine.{Machine}
 use Rattle.model.proofs.Runs.{run-broke, run-on}
-use Rattle.model.proofs.Numbers.{none-says, buffers-right, frame-right}
+use Rattle.model.proofs.Numbers.{buffers-right}
 use Rattle.cpu.proofs.Runs.{answers}
 use Rattle.cpu.specs.Ended.{ofEnd}
 use Rattle.cpu.specs.declared.End.{End}
-use Rattle.machine.specs.FromRun.{stepOf, runOf, eventOf, frameOf}
+use Rattle.replies.specs.FromRun.{stepOf, runOf, eventOf, frameOf}
 
 -- ---- a refusal, and none
 
@@ -35,32 +35,17 @@ unfolding unless
 taken zero s done e z h = h
 taken (suc k) s done e z h = absurd (omega arith)
 
+-- the number that the code found is 0
+pub none : {n : ℕ} (k : ℕ) → n ≡ k → n ≡ 0 → k ≡ 0
+none k e z = sym e ∙ z
+
 -- the buffers of a call that is not refused have their lengths
 pub sized : {n : ℕ} (s : State) → n ≡ refusal (bufferRows s) → n ≡ 0 → Sized s
-sized s e z = buffers-right s [] (rw (append-nil (bufferRows s)) (sym e ∙ z)) .0
-
-second : (a b : Bool) → (a || b) ≡ false → b ≡ false
-second true b e = let z : _≡_ {A = ℕ} 0 1 = cc in absurd (omega arith)
-second false b e = e
-
-pub load-right : {n : ℕ} (program : List ℕ) (s : State) → n ≡ refusal (loadRows program s) → n ≡ 0 → Sized s × (length program ≤ loadMost)
-unfolding loadRows
-load-right program s e z =
-    let b = buffers-right s _ (sym e ∙ z) in
-    (b .0, ltb-false loadMost (length program) (second (hasLength program 0) (ltb loadMost (length program)) (none-says 4 _ _ (b .1) .0)))
-
-pub event-right : {n : ℕ} (device : ℕ) (s : State) → n ≡ refusal (eventRows device s) → n ≡ 0 → Sized s × (device ≤ 15)
-unfolding eventRows
-event-right device s e z =
-    let b = buffers-right s _ (sym e ∙ z) in
-    (b .0, ltb-false 15 device (none-says 5 _ _ (b .1) .0))
+sized s e z = buffers-right s [] (rw (append-nil (bufferRows s)) (none (refusal (bufferRows s)) e z)) .0
 
 -- whatever the machine record
 pub resized : (a b c d : List ℕ) (m n : Machine) → Sized (state a b c d m) → Sized (state a b c d n)
 resized a b c d m n z = record { memory = z .memory; devices = z .devices; work = z .work; ret = z .ret }
-
-pub frame-taken : {n : ℕ} (frame : List ℕ) (s : State) → n ≡ refusal (frameRows frame s) → n ≡ 0 → Sized s × (length frame ≡ frameSize)
-frame-taken frame s e z = frame-right frame s (sym e ∙ z)
 
 -- ---- what a run replies
 

@@ -9,72 +9,27 @@ use buffers::load_memory;
 use buffers::load_refusal;
 use buffers::verdict;
 use buffers::wrong_length;
-use cpu::End;
 use model::EventReply;
 use model::FrameReply;
 use model::LoadReply;
 use model::Machine;
 use model::RunReply;
 use model::StepReply;
+use replies::event_of;
+use replies::frame_of;
+use replies::run_of;
+use replies::step_of;
 use stack::input;
 ghost use mathlib.Core.Path.{_≡_};
-ghost use Prim.Native.Nat.{_≤_};
 ghost use Rattle.model.specs.Machine.{state};
 ghost use Rattle.model.specs.Calls.{loadCall, stepCall, runCall, eventCall, frameCall};
 ghost use Rattle.model.specs.Replies.{ofLoad, ofStep, ofRun, ofEvent, ofFrame};
-ghost use Rattle.cpu.specs.Ended.{left};
-ghost use Rattle.machine.specs.FromRun.{stepOf, runOf, eventOf, frameOf};
 
 // A program stands at 0100 hexadecimal, and starts there.
 const START: u16 = 0x0100;
 
 // Device d has the ports from 16 x d on.
 const DEVICE_PORTS: u16 = 16;
-
-// ---- from the end of a run
-
-// The reply of a step, from the end of a run with budget 1.
-fn step_of(end: End) -> StepReply
-    ensures { λ r. ⌜ r ≡ stepOf end ⌝ }
-{
-    match end {
-        End::Broke(m, _) => StepReply::Broke(m),
-        End::Spent(m) => StepReply::WentOn(m),
-    }
-}
-
-fn run_of(end: End, budget: u32) -> RunReply
-    requires { ⌜ left end ≤ budget ⌝ }
-    ensures { λ r. ⌜ r ≡ runOf budget end ⌝ }
-{
-    match end {
-        End::Broke(m, left) => RunReply::Broke(m, budget - left),
-        End::Spent(m) => RunReply::Spent(m, budget),
-    }
-}
-
-fn event_of(end: End, budget: u32) -> EventReply
-    requires { ⌜ left end ≤ budget ⌝ }
-    ensures { λ r. ⌜ r ≡ eventOf budget end ⌝ }
-{
-    match end {
-        End::Broke(m, left) => EventReply::Broke(m, budget - left),
-        End::Spent(m) => EventReply::Spent(m, budget),
-    }
-}
-
-// "The verdict is port F2 if Broke and 0 if Spent."
-fn frame_of(end: End, budget: u32, verdict: u8) -> FrameReply
-    requires { ⌜ left end ≤ budget ⌝ }
-    ensures { λ r. ⌜ r ≡ frameOf budget end verdict ⌝ }
-{
-    match end {
-        End::Broke(m, left) => FrameReply::Broke(m, budget - left, verdict),
-        End::Spent(m) => FrameReply::Spent(m, budget),
-    }
-}
-
-// ---- the calls
 
 // "memory is zero but for the program at 0100 hexadecimal; device page and stacks are zero; both pointers 0; counter 0100"
 pub fn load(

@@ -1,6 +1,6 @@
 -- `capi::uxn_admit` meets its contract. Assumes nothing.
 use mathlib.Core.Path.{ap, _∙_}
-use Rattle.capi.specs.Exported.{exportedAdmit}
+use Rattle.creply.specs.Exported.{exportedAdmit}
 use borrow.Author.Needs.{needs}
 use Rattle.capi.proofs.uxn_admit.Statement.{statement}
 use Rattle.capi.proofs.uxn_admit.Tie as tie

@@ -1,6 +1,6 @@
 -- `capi::uxn_event` meets its contract. Assumes nothing.
 use mathlib.Core.Path.{ap, _∙_}
-use Rattle.capi.specs.Exported.{exported}
+use Rattle.creply.specs.Exported.{exported}
 use borrow.Author.Needs.{needs}
 use Rattle.capi.proofs.uxn_event.Statement.{statement}
 use Rattle.capi.proofs.uxn_event.Tie as tie

@@ -1,5 +1,6 @@
 -- `machine::event` meets its contract. Assumes nothing.
 use Rattle.machine.proofs.Calls as calls
+use Rattle.model.proofs.Numbers as numbers
 use mathlib.Core.Path.{_∙_}
 use native.Mathlib.Omega.{arith}
 use Rattle.model.specs.Calls.{eventCall}
@@ -12,14 +13,14 @@ unfolding eventCall
 returns c = calls.refused _ _ _ (c .before .event-refusal .ensures _) (c .if1 .taken)
 
 input-requires : tie.Need-input-requires
-input-requires c κs = calls.event-right _ _ (c .before .before .event-refusal .ensures (c .before .before .before .before .before .before .before .before .before .before .before .args .m)) (c .before .if1 .left) .0 .devices
+input-requires c κs = numbers.event-right _ _ (calls.none _ (c .before .before .event-refusal .ensures (c .before .before .before .before .before .before .before .before .before .before .before .args .m)) (c .before .if1 .left)) .0 .devices
 
 returns-2 : tie.Need-returns-2
 unfolding eventCall
 returns-2 c = calls.taken _ _ _ (c .before .before .before .before .event-refusal .ensures _) (c .before .before .before .if1 .left) (calls.ignored _ _ _ (calls.vector-is _ _ (omega arith) (c .before .input .ensures)) (c .if2 .taken))
 
 run-requires : tie.Need-run-requires
-run-requires c κs = calls.resized _ _ _ _ (c .before .before .before .before .before .before .before .before .before .before .before .before .before .before .before .before .before .args .m) _ (calls.event-right _ _ (c .before .before .before .before .before .before .before .before .event-refusal .ensures (c .before .before .before .before .before .before .before .before .before .before .before .before .before .before .before .before .before .args .m)) (c .before .before .before .before .before .before .before .if1 .left) .0)
+run-requires c κs = calls.resized _ _ _ _ (c .before .before .before .before .before .before .before .before .before .before .before .before .before .before .before .before .before .args .m) _ (numbers.event-right _ _ (calls.none _ (c .before .before .before .before .before .before .before .before .event-refusal .ensures (c .before .before .before .before .before .before .before .before .before .before .before .before .before .before .before .before .before .args .m)) (c .before .before .before .before .before .before .before .if1 .left)) .0)
 
 returns-3 : tie.Need-returns-3
 unfolding eventCall

@@ -1,5 +1,6 @@
 -- `machine::frame` meets its contract. Assumes nothing.
 use Rattle.machine.proofs.Calls as calls
+use Rattle.model.proofs.Numbers as numbers
 use mathlib.Core.Path.{ap, _∙_}
 use Rattle.model.specs.Run.{run}
 use Rattle.model.specs.Calls.{frameCall, withVerdict}
@@ -12,16 +13,16 @@ unfolding frameCall
 returns c = calls.refused _ _ _ (c .before .frame-refusal .ensures _) (c .if1 .taken)
 
 frame-memory-requires : tie.Need-frame-memory-requires
-frame-memory-requires c κs = (calls.frame-taken _ _ (c .before .before .frame-refusal .ensures (c .before .before .before .before .before .before .before .before .before .before .before .before .args .m)) (c .before .if1 .left) .0 .memory, calls.frame-taken _ _ (c .before .before .frame-refusal .ensures (c .before .before .before .before .before .before .before .before .before .before .before .before .args .m)) (c .before .if1 .left) .1)
+frame-memory-requires c κs = (numbers.frame-right _ _ (calls.none _ (c .before .before .frame-refusal .ensures (c .before .before .before .before .before .before .before .before .before .before .before .before .args .m)) (c .before .if1 .left)) .0 .memory, numbers.frame-right _ _ (calls.none _ (c .before .before .frame-refusal .ensures (c .before .before .before .before .before .before .before .before .before .before .before .before .args .m)) (c .before .if1 .left)) .1)
 
 clear-verdict-requires : tie.Need-clear-verdict-requires
-clear-verdict-requires c κs = calls.frame-taken _ _ (c .before .before .before .before .before .before .frame-refusal .ensures (c .before .before .before .before .before .before .before .before .before .before .before .before .before .before .before .before .args .m)) (c .before .before .before .before .before .if1 .left) .0 .devices
+clear-verdict-requires c κs = numbers.frame-right _ _ (calls.none _ (c .before .before .before .before .before .before .frame-refusal .ensures (c .before .before .before .before .before .before .before .before .before .before .before .before .before .before .before .before .args .m)) (c .before .before .before .before .before .if1 .left)) .0 .devices
 
 run-requires : tie.Need-run-requires
-run-requires c κs = let z = calls.frame-taken _ _ (c .before .before .before .before .before .before .before .before .before .before .before .before .before .frame-refusal .ensures (c .before .before .before .before .before .before .before .before .before .before .before .before .before .before .before .before .before .before .before .before .before .before .before .args .m)) (c .before .before .before .before .before .before .before .before .before .before .before .before .if1 .left) .0 in search needs
+run-requires c κs = let z = numbers.frame-right _ _ (calls.none _ (c .before .before .before .before .before .before .before .before .before .before .before .before .before .frame-refusal .ensures (c .before .before .before .before .before .before .before .before .before .before .before .before .before .before .before .before .before .before .before .before .before .before .before .args .m)) (c .before .before .before .before .before .before .before .before .before .before .before .before .if1 .left)) .0 in search needs
 
 verdict-requires : tie.Need-verdict-requires
-verdict-requires c κs = let z = calls.frame-taken _ _ (c .before .before .before .before .before .before .before .before .before .before .before .before .before .before .before .before .before .before .before .before .before .before .before .frame-refusal .ensures (c .before .before .before .before .before .before .before .before .before .before .before .before .before .before .before .before .before .before .before .before .before .before .before .before .before .before .before .before .before .before .before .before .before .args .m)) (c .before .before .before .before .before .before .before .before .before .before .before .before .before .before .before .before .before .before .before .before .before .before .if1 .left) .0 in search needs
+verdict-requires c κs = let z = numbers.frame-right _ _ (calls.none _ (c .before .before .before .before .before .before .before .before .before .before .before .before .before .before .before .before .before .before .before .before .before .before .before .frame-refusal .ensures (c .before .before .before .before .before .before .before .before .before .before .before .before .before .before .before .before .before .before .before .before .before .before .before .before .before .before .before .before .before .before .before .before .before .args .m)) (c .before .before .before .before .before .before .before .before .before .before .before .before .before .before .before .before .before .before .before .before .before .before .if1 .left)) .0 in search needs
 
 returns-2 : tie.Need-returns-2
 unfolding frameCall

@@ -1,5 +1,6 @@
 -- `machine::load` meets its contract. Assumes nothing.
 use Rattle.machine.proofs.Calls as calls
+use Rattle.model.proofs.Numbers as numbers
 use Rattle.model.specs.Calls.{loadCall}
 use borrow.Author.Needs.{needs}
 use Rattle.machine.proofs.load.Statement.{statement}
@@ -10,11 +11,11 @@ unfolding loadCall
 returns c = calls.refused _ _ _ (c .before .load-refusal .ensures _) (c .if1 .taken)
 
 load-memory-requires : tie.Need-load-memory-requires
-load-memory-requires c κs = (calls.load-right _ _ (c .before .before .load-refusal .ensures (c .before .before .before .before .before .before .before .before .before .before .before .before .args .m)) (c .before .if1 .left) .0 .memory, calls.load-right _ _ (c .before .before .load-refusal .ensures (c .before .before .before .before .before .before .before .before .before .before .before .before .args .m)) (c .before .if1 .left) .1)
+load-memory-requires c κs = (numbers.load-right _ _ (calls.none _ (c .before .before .load-refusal .ensures (c .before .before .before .before .before .before .before .before .before .before .before .before .args .m)) (c .before .if1 .left)) .0 .memory, numbers.load-right _ _ (calls.none _ (c .before .before .load-refusal .ensures (c .before .before .before .before .before .before .before .before .before .before .before .before .args .m)) (c .before .if1 .left)) .1)
 
 returns-2 : tie.Need-returns-2
 unfolding loadCall
-returns-2 c = calls.taken _ _ _ (c .before .before .before .before .before .before .before .before .before .before .before .before .before .before .before .before .before .load-refusal .ensures _) (c .before .before .before .before .before .before .before .before .before .before .before .before .before .before .before .before .if1 .left) (calls.load-is _ _ (calls.load-right _ _ (c .before .before .before .before .before .before .before .before .before .before .before .before .before .before .before .before .before .load-refusal .ensures (c .before .before .before .before .before .before .before .before .before .before .before .before .before .before .before .before .before .before .before .before .before .before .before .before .before .before .before .args .m)) (c .before .before .before .before .before .before .before .before .before .before .before .before .before .before .before .before .if1 .left) .0) (c .before .before .before .before .before .before .before .before .before .before .before .before .before .before .load-memory .ensures) (c .before .before .before .before .before .before .before .before .before .before .clear .ensures) (c .before .before .before .before .before .before .clear2 .ensures) (c .before .before .clear3 .ensures))
+returns-2 c = calls.taken _ _ _ (c .before .before .before .before .before .before .before .before .before .before .before .before .before .before .before .before .before .load-refusal .ensures _) (c .before .before .before .before .before .before .before .before .before .before .before .before .before .before .before .before .if1 .left) (calls.load-is _ _ (numbers.load-right _ _ (calls.none _ (c .before .before .before .before .before .before .before .before .before .before .before .before .before .before .before .before .before .load-refusal .ensures (c .before .before .before .before .before .before .before .before .before .before .before .before .before .before .before .before .before .before .before .before .before .before .before .before .before .before .before .args .m)) (c .before .before .before .before .before .before .before .before .before .before .before .before .before .before .before .before .if1 .left)) .0) (c .before .before .before .before .before .before .before .before .before .before .before .before .before .before .load-memory .ensures) (c .before .before .before .before .before .before .before .before .before .before .clear .ensures) (c .before .before .before .before .before .before .clear2 .ensures) (c .before .before .clear3 .ensures))
 
 pub load-spec : {M : Type 1} → statement M
 load-spec =

@@ -1,0 +1,52 @@
+// The replies of step, run, event and frame, from the end of the run that they make.
+use cpu::End;
+use model::EventReply;
+use model::FrameReply;
+use model::Machine;
+use model::RunReply;
+use model::StepReply;
+ghost use mathlib.Core.Path.{_≡_};
+ghost use Prim.Native.Nat.{_≤_};
+ghost use Rattle.cpu.specs.Ended.{left};
+ghost use Rattle.replies.specs.FromRun.{stepOf, runOf, eventOf, frameOf};
+
+// The reply of a step, from the end of a run with budget 1.
+pub fn step_of(end: End) -> StepReply
+    ensures { λ r. ⌜ r ≡ stepOf end ⌝ }
+{
+    match end {
+        End::Broke(m, _) => StepReply::Broke(m),
+        End::Spent(m) => StepReply::WentOn(m),
+    }
+}
+
+pub fn run_of(end: End, budget: u32) -> RunReply
+    requires { ⌜ left end ≤ budget ⌝ }
+    ensures { λ r. ⌜ r ≡ runOf budget end ⌝ }
+{
+    match end {
+        End::Broke(m, left) => RunReply::Broke(m, budget - left),
+        End::Spent(m) => RunReply::Spent(m, budget),
+    }
+}
+
+pub fn event_of(end: End, budget: u32) -> EventReply
+    requires { ⌜ left end ≤ budget ⌝ }
+    ensures { λ r. ⌜ r ≡ eventOf budget end ⌝ }
+{
+    match end {
+        End::Broke(m, left) => EventReply::Broke(m, budget - left),
+        End::Spent(m) => EventReply::Spent(m, budget),
+    }
+}
+
+// "The verdict is port F2 if Broke and 0 if Spent."
+pub fn frame_of(end: End, budget: u32, verdict: u8) -> FrameReply
+    requires { ⌜ left end ≤ budget ⌝ }
+    ensures { λ r. ⌜ r ≡ frameOf budget end verdict ⌝ }
+{
+    match end {
+        End::Broke(m, left) => FrameReply::Broke(m, budget - left, verdict),
+        End::Spent(m) => FrameReply::Spent(m, budget),
+    }
+}
