@@ -1,6 +1,5 @@
 pub mod Calls
 pub mod Explored
-pub mod Instructions
 pub mod Sheets
 pub mod Visits
 pub mod Worklist

@@ -19,8 +19,9 @@ use Rattle.model.proofs.Rules.{marked-within}
 use Rattle.model.proofs.Exactness.{T-of}
 use Rattle.admission.specs.declared.Next.{Next}
 use Rattle.admission.proofs.Next.{the-type}
-use Rattle.admission.specs.Worklist.{jumpTarget, depthOr, Forced, Marks, Obeyed, Listed, Tested, Extended, Outcome}
-use Rattle.admission.proofs.Instructions.{byte-is, depth-enough, depth-holds, after-brk, after-jmi, after-jci, after-other}
+use Rattle.rules.specs.Depths.{jumpTarget, depthOr}
+use Rattle.admission.specs.Worklist.{Forced, Marks, Obeyed, Listed, Tested, Extended, Outcome}
+use Rattle.rules.proofs.Instructions.{byte-is, depth-enough, depth-holds, after-brk, after-jmi, after-jci, after-other}
 use Rattle.admission.proofs.Worklist.{same-depths, marks-are, sheet-length, marked-inside, marked-depths, unextended}
 
 -- one extension after another

@@ -2,27 +2,17 @@
 -- the contract of `admit` does not cite it.
 -- Assumes nothing.
 use mathlib.Core.Path.{_≡_}
-use mathlib.Core.Bool.{Bool, true, false, cond, not}
-use mathlib.Core.List.{List, [], _∷_}
+use mathlib.Core.Bool.{Bool, true, false, not}
+use mathlib.Core.List.{List}
 use Prim.Native.Nat.{ℕ, _+_, _*_, _≤_, _<_}
-use lib.Dec.{ltb}
 use lib.ListN.{length, getD}
-use Rattle.model.specs.Bytes.{number}
 use Rattle.model.specs.Machine.{start}
 use Rattle.model.specs.Instruction.{working, returning, takenFrom, lengthOf}
-use Rattle.model.specs.Step.{offset}
 use Rattle.model.specs.Admission.{Mark, admitMost, byteAt, allowed, depthAfter, GoesOn, Rules, Assignment, Assignable, sheetRecord, sheetOf, markIn, Smallest}
 use Rattle.model.specs.Admission.Mark.{marked}
 use Rattle.model.proofs.Reached.{count}
+use Rattle.rules.specs.Depths.{depthOr}
 use Rattle.admission.specs.declared.Next.{Next}
-
--- the target of JMI and JCI at an address: "count from the address after" the offset
-abbrev pub jumpTarget : List ℕ → ℕ → ℕ
-jumpTarget program at = offset (at + 3) (number (byteAt program (at + 1) ∷ byteAt program (at + 2) ∷ []))
-
--- the depth after an instruction; 256, which is none, where the stack does not hold what is taken
-abbrev pub depthOr : ℕ → ℕ → ℕ → ℕ
-depthOr depth taken after = cond (ltb depth taken) 256 after
 
 -- every assignment marks the address with these depths, and so has it in the program
 abbrev pub Forced : List ℕ → ℕ → ℕ → ℕ → Type 0

@@ -1,22 +1,22 @@
 // Admission of a program: the addresses that are reached from 0100 are marked in the sheet, each once, by a worklist.
 use buffers::clear;
 use model::AdmitReply;
-use stack::two_bytes;
-use std::num::wrapping_add_u16;
+use rules::depth_by_table;
+use rules::forbidden;
+use rules::jump_target;
 use table::entry;
 use table::table;
 ghost use mathlib.Core.Path.{_≡_};
-ghost use mathlib.Core.Bool.{cond, not};
-ghost use Prim.Native.Nat.{_+_, _-_, _*_, _≤_, _<_};
+ghost use Prim.Native.Nat.{_+_, _*_, _≤_};
 ghost use lib.ListN.{length, set, replicate};
 ghost use Rattle.model.specs.Machine.{start};
-ghost use Rattle.model.specs.Instruction.{keepMode, takenFrom, RowTable};
-ghost use Rattle.model.specs.Admission.{admitMost, allowed, sheetRecord, depthAfter, sheetOf, markIn};
+ghost use Rattle.model.specs.Instruction.{RowTable};
+ghost use Rattle.model.specs.Admission.{sheetRecord, sheetOf, markIn};
 ghost use Rattle.model.specs.Admission.Mark.{unmarked, marked};
 ghost use Rattle.model.specs.Calls.{admitCall};
 ghost use Rattle.model.specs.Replies.{ofAdmit};
 ghost use Rattle.model.specs.Exactness.{Proper};
-ghost use Rattle.admission.specs.Worklist.{jumpTarget, depthOr, Forced, Marks, Obeyed, Listed, Tested, Outcome, Explored};
+ghost use Rattle.admission.specs.Worklist.{Forced, Marks, Obeyed, Listed, Tested, Outcome, Explored};
 
 // "above 4,096 bytes" a program is not admitted.
 const ADMIT_MOST: usize = 4096;
@@ -27,12 +27,10 @@ const SHEET_RECORD: usize = 4;
 // "The first record stands for address 0100."
 const START: u16 = 0x0100;
 
-// The columns of the table: taken from a stack, and pushed on it two columns further; 4 is the length.
+// The columns of the table: the two stacks, and the length.
 const WORKING: usize = 0;
 
 const RETURNING: usize = 1;
-
-const PUSHED: usize = 2;
 
 const LENGTH: usize = 4;
 
@@ -47,84 +45,6 @@ const JMI: u8 = 0x40;
 enum Next {
     Refuted,
     Queued(usize),
-}
-
-// ---- an instruction byte
-
-// Not "none of JMP, JCN, JSR, STR, STA in any mode, nor JSI, nor STZ in 16-bit form".
-fn forbidden(byte: u8) -> bool
-    ensures { λ r. ⌜ r ≡ not (allowed byte) ⌝ }
-{
-    let operation = byte % 32;
-    // JMP
-    if operation == 0x0C {
-        return true;
-    }
-    // JCN
-    if operation == 0x0D {
-        return true;
-    }
-    // JSR
-    if operation == 0x0E {
-        return true;
-    }
-    // STR
-    if operation == 0x13 {
-        return true;
-    }
-    // STA
-    if operation == 0x15 {
-        return true;
-    }
-    // JSI
-    if byte == 0x60 {
-        return true;
-    }
-    // STZ in 16-bit form
-    byte % 64 == 0x31
-}
-
-// What is gone of the bytes that an instruction takes: under keep nothing.
-fn lowered(byte: u8, taken: u8) -> u8
-    ensures { λ r. ⌜ (r ≡ cond (keepMode byte) 0 taken) × (r ≤ taken) ⌝ }
-{
-    if 128 <= byte { 0 } else { taken }
-}
-
-// The depth of a stack after an instruction; 256, which no depth may be, where the stack does not hold "the bytes that it
-// takes, keep or not".
-fn depth_after(depth: u8, byte: u8, taken: u8, pushed: u8) -> u16
-    ensures { λ r. ⌜ r ≡ depthOr depth taken (depth - cond (keepMode byte) 0 taken + pushed) ⌝ }
-{
-    let gone = lowered(byte, taken);
-    if depth < taken {
-        return 256;
-    }
-    (depth - gone) as u16 + pushed as u16
-}
-
-// The same for the working stack, k = 0, and the return stack, k = 1, by the table.
-fn depth_by_table(rows: &[u8; 1280], byte: u8, k: usize, depth: u8) -> u16
-    requires { ⌜ RowTable (now rows) × (k < 2) ⌝ }
-    ensures { λ r. ⌜ r ≡ depthOr depth (takenFrom k byte) (depthAfter k byte depth) ⌝ }
-{
-    depth_after(
-        depth,
-        byte,
-        entry(rows, byte, k),
-        entry(rows, byte, k + PUSHED),
-    )
-}
-
-// Where JMI, and JCI if it jumps, goes on from place i of the program: the offset is counted from the address after it.
-fn jump_target(program: &[u8], i: usize) -> u16
-    requires { ⌜ (i + 3 ≤ length (now program)) × (length (now program) ≤ admitMost) ⌝ }
-    ensures { λ r. ⌜ r ≡ jumpTarget (now (program .entry)) (start + i) ⌝ }
-{
-    wrapping_add_u16(
-        START + 3 + i as u16,
-        two_bytes(program[i + 1], program[i + 2]),
-    )
 }
 
 // ---- the sheet

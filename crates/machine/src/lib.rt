@@ -2,19 +2,19 @@
 // buffers of any length, and refuses first.
 use buffers::clear;
 use buffers::clear_verdict;
-use buffers::event_refusal;
 use buffers::frame_memory;
-use buffers::frame_refusal;
 use buffers::load_memory;
-use buffers::load_refusal;
 use buffers::verdict;
-use buffers::wrong_length;
 use model::EventReply;
 use model::FrameReply;
 use model::LoadReply;
 use model::Machine;
 use model::RunReply;
 use model::StepReply;
+use refusals::event_refusal;
+use refusals::frame_refusal;
+use refusals::load_refusal;
+use refusals::wrong_length;
 use replies::event_of;
 use replies::frame_of;
 use replies::run_of;

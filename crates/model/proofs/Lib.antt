@@ -6,7 +6,6 @@ pub mod Demand3
 pub mod EveryByte
 pub mod Exactness
 pub mod Fitting
-pub mod Instance
 pub mod Lists
 pub mod Marked
 pub mod Numbers

@@ -1,4 +1,4 @@
--- `buffers::well_formed` meets its contract. The loop's invariant: the bytes past the data are all zero just where the OR of
+-- `refusals::well_formed` meets its contract. The loop's invariant: the bytes past the data are all zero just where the OR of
 -- those seen is 0 and the rest are all zero. Assumes nothing.
 use mathlib.Core.Path.{_≡_, refl}
 use mathlib.Core.Bool.{_&&_}
@@ -8,9 +8,9 @@ use lib.Dec.{eqb}
 use lib.ListN.{length, drop}
 use borrow.Author.Needs.{needs}
 use Rattle.model.specs.Calls.{allZero}
-use Rattle.buffers.proofs.Frames as frames
-use Rattle.buffers.proofs.well_formed.Statement.{statement}
-use Rattle.buffers.proofs.well_formed.Tie as tie
+use Rattle.refusals.proofs.Frames as frames
+use Rattle.refusals.proofs.well_formed.Statement.{statement}
+use Rattle.refusals.proofs.well_formed.Tie as tie
 
 abbrev Inv-loop : tie.InvT-loop
 Inv-loop frame n seen₀ i₀ seen i =

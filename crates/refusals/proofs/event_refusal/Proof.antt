@@ -1,9 +1,9 @@
--- `buffers::event_refusal` meets its contract. Assumes nothing.
+-- `refusals::event_refusal` meets its contract. Assumes nothing.
 use borrow.Author.Needs.{needs}
 use Rattle.model.specs.Calls.{eventRows}
-use Rattle.buffers.proofs.Refusals as laws
-use Rattle.buffers.proofs.event_refusal.Statement.{statement}
-use Rattle.buffers.proofs.event_refusal.Tie as tie
+use Rattle.refusals.proofs.Refusals as laws
+use Rattle.refusals.proofs.event_refusal.Statement.{statement}
+use Rattle.refusals.proofs.event_refusal.Tie as tie
 
 returns : tie.Need-returns
 unfolding eventRows

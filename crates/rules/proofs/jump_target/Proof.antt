@@ -1,8 +1,8 @@
--- `admission::jump_target` meets its contract. Assumes nothing.
-use Rattle.admission.proofs.Instructions.{target-is}
+-- `rules::jump_target` meets its contract. Assumes nothing.
+use Rattle.rules.proofs.Instructions.{target-is}
 use borrow.Author.Needs.{needs}
-use Rattle.admission.proofs.jump_target.Statement.{statement}
-use Rattle.admission.proofs.jump_target.Tie as tie
+use Rattle.rules.proofs.jump_target.Statement.{statement}
+use Rattle.rules.proofs.jump_target.Tie as tie
 
 returns : tie.Need-returns
 returns c = target-is (c .before .before .before .before .before .args .program .now) (c .before .before .before .before .before .args .i) _ _ (c .before .two-bytes .ensures) (c .wrapping-add-u16 .ensures)

@@ -1,9 +1,9 @@
--- `buffers::load_refusal` meets its contract. Assumes nothing.
+-- `refusals::load_refusal` meets its contract. Assumes nothing.
 use borrow.Author.Needs.{needs}
 use Rattle.model.specs.Calls.{loadRows}
-use Rattle.buffers.proofs.Refusals as laws
-use Rattle.buffers.proofs.load_refusal.Statement.{statement}
-use Rattle.buffers.proofs.load_refusal.Tie as tie
+use Rattle.refusals.proofs.Refusals as laws
+use Rattle.refusals.proofs.load_refusal.Statement.{statement}
+use Rattle.refusals.proofs.load_refusal.Tie as tie
 
 returns : tie.Need-returns
 unfolding loadRows

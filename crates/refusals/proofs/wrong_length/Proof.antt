@@ -1,7 +1,7 @@
--- `buffers::wrong_length` meets its contract. Assumes nothing.
-use Rattle.buffers.proofs.Refusals as laws
-use Rattle.buffers.proofs.wrong_length.Statement.{statement}
-use Rattle.buffers.proofs.wrong_length.Tie as tie
+-- `refusals::wrong_length` meets its contract. Assumes nothing.
+use Rattle.refusals.proofs.Refusals as laws
+use Rattle.refusals.proofs.wrong_length.Statement.{statement}
+use Rattle.refusals.proofs.wrong_length.Tie as tie
 
 returns : tie.Need-returns
 returns c m = laws.memory-wrong _ (c .if1 .taken)

@@ -1,10 +1,10 @@
--- `buffers::frame_refusal` meets its contract. Assumes nothing.
+-- `refusals::frame_refusal` meets its contract. Assumes nothing.
 use mathlib.Core.Path.{sym, _∙_}
 use borrow.Author.Needs.{needs}
 use Rattle.model.specs.Calls.{frameRows}
-use Rattle.buffers.proofs.Refusals as laws
-use Rattle.buffers.proofs.frame_refusal.Statement.{statement}
-use Rattle.buffers.proofs.frame_refusal.Tie as tie
+use Rattle.refusals.proofs.Refusals as laws
+use Rattle.refusals.proofs.frame_refusal.Statement.{statement}
+use Rattle.refusals.proofs.frame_refusal.Tie as tie
 
 returns : tie.Need-returns
 unfolding frameRows

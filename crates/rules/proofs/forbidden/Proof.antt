@@ -1,10 +1,10 @@
--- `admission::forbidden` meets its contract. Assumes nothing.
+-- `rules::forbidden` meets its contract. Assumes nothing.
 use mathlib.Core.Path.{sym}
 use mathlib.Core.Bool.{Bool·not-not}
 use borrow.Author.Tests.{ne-eqb}
 use Rattle.model.specs.Admission.{allowed}
-use Rattle.admission.proofs.forbidden.Statement.{statement}
-use Rattle.admission.proofs.forbidden.Tie as tie
+use Rattle.rules.proofs.forbidden.Statement.{statement}
+use Rattle.rules.proofs.forbidden.Tie as tie
 
 returns : tie.Need-returns
 unfolding allowed

@@ -12,7 +12,7 @@ use Rattle.model.specs.Machine.{start}
 use Rattle.model.specs.Instruction.{lengthOf}
 use Rattle.model.specs.Admission.{Mark, byteAt, markAfter, successors}
 use Rattle.model.proofs.Computing.{decoding}
-use Rattle.admission.specs.Worklist.{jumpTarget, depthOr}
+use Rattle.rules.specs.Depths.{jumpTarget, depthOr}
 
 -- the byte at a place of the program
 pub byte-is : (program : List ℕ) (i : ℕ) → byteAt program (start + i) ≡ getD program i 0
