@@ -10,7 +10,7 @@ use Rattle.transfers.proofs.deo.Tie as tie
 
 returns : tie.Need-returns
 unfolding written laws.tables
-returns c = rw (laws.effect-is _ _ _ _ DEO _ _ _ _ (took.read-two _ _ _ 1 1 (c .before .before .before .before .before .size-of .ensures .0) refl (c .before .before .before .before .operands .ensures))) (c .before .before .output .ensures)
+returns c = laws.stored _ _ _ _ DEO _ _ _ _ _ (took.read-two _ _ _ 1 1 (c .before .before .before .before .before .size-of .ensures .0) refl (c .before .before .before .before .operands .ensures)) (c .before .before .output .ensures)
 
 pub deo-spec : {M : Type 1} → statement M
 deo-spec =

@@ -10,11 +10,11 @@ use Rattle.transfers.proofs.jci.Tie as tie
 
 returns : tie.Need-returns
 unfolding laws.tables
-returns c = rw (laws.effect-is _ _ _ _ JCI false _ _ _ (took.read-one _ 1 1 refl (c .before .before .operands .ensures))) (laws.stays _ _ _ (c .before .if1 .taken) (c .wrapping-add-u16 .ensures))
+returns c = laws.jumped _ _ _ _ JCI false _ _ _ (took.read-one _ 1 1 refl (c .before .before .operands .ensures)) (laws.stays _ _ _ (c .before .if1 .taken) (c .wrapping-add-u16 .ensures))
 
 returns-2 : tie.Need-returns-2
 unfolding laws.tables
-returns-2 c = rw (laws.effect-is _ _ _ _ JCI false _ _ _ (took.read-one _ 1 1 refl (c .before .before .operands .ensures))) (laws.jumps _ _ _ (c .before .if1 .left) (c .offset .ensures))
+returns-2 c = laws.jumped _ _ _ _ JCI false _ _ _ (took.read-one _ 1 1 refl (c .before .before .operands .ensures)) (laws.jumps _ _ _ (c .before .if1 .left) (c .offset .ensures))
 
 pub jci-spec : {M : Type 1} → statement M
 jci-spec =

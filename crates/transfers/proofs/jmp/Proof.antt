@@ -8,7 +8,7 @@ use Rattle.transfers.proofs.jmp.Tie as tie
 
 returns : tie.Need-returns
 unfolding laws.tables
-returns c = rw (laws.effect-is _ _ _ _ JMP _ _ _ _ (took.read-one _ _ _ (c .before .before .size-of .ensures .0) (c .before .operands .ensures))) (c .address .ensures)
+returns c = laws.jumped _ _ _ _ JMP _ _ _ _ (took.read-one _ _ _ (c .before .before .size-of .ensures .0) (c .before .operands .ensures)) (c .address .ensures)
 
 pub jmp-spec : {M : Type 1} → statement M
 jmp-spec =

@@ -10,7 +10,7 @@ use Rattle.transfers.proofs.sta.Tie as tie
 
 returns : tie.Need-returns
 unfolding written laws.tables
-returns c = rw (laws.effect-is _ _ _ _ STA _ _ _ _ (took.read-two _ _ _ 2 2 (c .before .before .before .before .before .size-of .ensures .0) refl (c .before .before .before .before .operands .ensures))) (c .before .before .store .ensures)
+returns c = laws.stored _ _ _ _ STA _ _ _ _ _ (took.read-two _ _ _ 2 2 (c .before .before .before .before .before .size-of .ensures .0) refl (c .before .before .before .before .operands .ensures)) (c .before .before .store .ensures)
 
 pub sta-spec : {M : Type 1} → statement M
 sta-spec =

@@ -10,7 +10,7 @@ use Rattle.transfers.proofs.sth.Tie as tie
 
 returns : tie.Need-returns
 unfolding otherAfter laws.tables
-returns c = rw (laws.effect-is _ _ _ _ STH _ _ _ _ (took.read-one _ _ _ (c .before .before .before .before .before .size-of .ensures .0) (c .before .before .before .before .operands .ensures))) (took.push-one _ [] [] _ (c .before .before .push .ensures))
+returns c = laws.passed _ _ _ _ STH _ _ _ _ _ (took.read-one _ _ _ (c .before .before .before .before .before .size-of .ensures .0) (c .before .before .before .before .operands .ensures)) (took.push-one _ [] [] _ (c .before .before .push .ensures))
 
 pub sth-spec : {M : Type 1} → statement M
 sth-spec =
