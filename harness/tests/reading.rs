@@ -13,7 +13,7 @@ use uxn_filter_harness::page::{self, table};
 const HEAD: &str = "| requirement | definition | theorem or contract | file | must-fail edits |";
 /// The page had so many rows and edits when it was written; fewer would be a part of it lost.
 const ROWS: usize = 65;
-const EDITS: usize = 158;
+const EDITS: usize = 162;
 
 struct Row {
     requirement: String,
