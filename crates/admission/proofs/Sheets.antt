@@ -6,9 +6,9 @@ use native.Mathlib.Decide.{ℕ-discrete}
 use native.Mathlib.Omega.{arith}
 use lib.ListN.{length, getD, set, length-set, replicate, length-replicate}
 use lib.Seq.{getD-set-same, getD-set-other, ext-getD}
-use Rattle.model.specs.Admission.{Mark, sheetRecord, recordOf, sheetOf}
+use Rattle.model.specs.Admission.{Mark, countMarked, sheetRecord, recordOf, sheetOf}
 use Rattle.model.specs.Admission.Mark.{unmarked, marked}
-use Rattle.model.proofs.Reached.{count, count-most, blank-mark}
+use Rattle.model.proofs.Reached.{count-most, blank-mark}
 use Rattle.model.proofs.Rules.{not-both}
 use Rattle.model.proofs.Sheet.{length-sheet, record-byte, record-index}
 
@@ -61,8 +61,8 @@ sheet-set (x ∷ marks) (byte ∷ program) (suc i) w r l h = by x (sheet-set mar
 
 -- one more mark counts one more
 pub count-set : (marks : List Mark) (i w r : ℕ) → i < length marks → getD marks i unmarked ≡ unmarked
-    → count (set marks i (marked w r)) ≡ count marks + 1
-unfolding count
+    → countMarked (set marks i (marked w r)) ≡ countMarked marks + 1
+unfolding countMarked
 count-set [] i w r h e = absurd (omega arith)
 count-set (unmarked ∷ marks) zero w r h e = omega arith
 count-set (marked v q ∷ marks) zero w r h e = not-both (sym e)
@@ -70,8 +70,8 @@ count-set (unmarked ∷ marks) (suc i) w r h e = count-set marks i w r (omega ar
 count-set (marked v q ∷ marks) (suc i) w r h e = omega (arith, count-set marks i w r (omega arith) e)
 
 -- where a mark is missing there is room for one more
-pub count-room : (marks : List Mark) (i : ℕ) → i < length marks → getD marks i unmarked ≡ unmarked → count marks < length marks
-unfolding count
+pub count-room : (marks : List Mark) (i : ℕ) → i < length marks → getD marks i unmarked ≡ unmarked → countMarked marks < length marks
+unfolding countMarked
 count-room [] i h e = absurd (omega arith)
 count-room (unmarked ∷ marks) i h e = omega (arith, count-most marks)
 count-room (marked v q ∷ marks) zero h e = not-both (sym e)

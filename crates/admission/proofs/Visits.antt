@@ -115,11 +115,11 @@ module _ (program sheet queue : List ℕ) (tail : ℕ) (list : Listed program sh
 
     -- the next address
     next-is : at + lengthOf (byteAt program at) ≡ start + after
-    next-is = rw (byte-is program i) (omega (arith, t .next))
+    next-is = rw (byte-is program i) (omega (arith, t .nextIs))
 
     -- JMI and JCI have three bytes
     three-inside : lengthOf byte ≡ 3 → i + 3 ≤ length program
-    three-inside e = omega (arith, t .next, t .whole)
+    three-inside e = omega (arith, t .nextIs, t .whole)
 
     pub jump-inside : byte ≡ 0x40 → i + 3 ≤ length program
     unfolding decoding
@@ -172,7 +172,7 @@ module _ (program sheet queue : List ℕ) (tail : ℕ) (list : Listed program sh
           workLow = t .workLow;
           retLow = t .retLow;
           placed = omega arith;
-          inside = rw (byte-is program i) (omega (arith, t .next, t .whole));
+          inside = rw (byte-is program i) (omega (arith, t .nextIs, t .whole));
           fine = rw (byte-is program i) (T-of (allowed byte) (t .fine));
           work = rw (byte-is program i) (worked .0);
           ret = rw (byte-is program i) (returned .0);

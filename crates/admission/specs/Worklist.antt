@@ -8,9 +8,8 @@ use Prim.Native.Nat.{ℕ, _+_, _*_, _≤_, _<_}
 use lib.ListN.{length, getD}
 use Rattle.model.specs.Machine.{start}
 use Rattle.model.specs.Instruction.{working, returning, takenFrom, lengthOf}
-use Rattle.model.specs.Admission.{Mark, admitMost, byteAt, allowed, depthAfter, GoesOn, Rules, Assignment, Assignable, sheetRecord, sheetOf, markIn, Smallest}
+use Rattle.model.specs.Admission.{Mark, admitMost, countMarked, byteAt, allowed, depthAfter, GoesOn, Rules, Assignment, Assignable, sheetRecord, sheetOf, markIn, Smallest}
 use Rattle.model.specs.Admission.Mark.{marked}
-use Rattle.model.proofs.Reached.{count}
 use Rattle.rules.specs.Depths.{depthOr}
 use Rattle.admission.specs.declared.Next.{Next}
 
@@ -34,7 +33,7 @@ pub record Listed (program sheet queue : List ℕ) (tail : ℕ) : Type 0 where
   pub marks : List Mark
   pub size : length marks ≡ length program
   pub written : sheet ≡ sheetOf marks program
-  pub counted : tail ≡ count marks
+  pub counted : tail ≡ countMarked marks
   -- 0100 is marked with 0 and 0, and only what every assignment marks is marked
   pub first : markIn sheet start ≡ marked 0 0
   pub forced : (at w r : ℕ) → markIn sheet at ≡ marked w r → Forced program at w r
@@ -43,12 +42,12 @@ pub record Listed (program sheet queue : List ℕ) (tail : ℕ) : Type 0 where
   pub covers : (at w r : ℕ) → markIn sheet at ≡ marked w r → (k : ℕ) × (k < tail) × (at ≡ start + getD queue k 0)
 
 -- The rules but the last hold at place i, with the depths of its record: the next place, and the depths after it.
-pub record Tested (program sheet : List ℕ) (i after work ret : ℕ) : Type 0 where
+pub record Tested (program sheet : List ℕ) (i next work ret : ℕ) : Type 0 where
   pub workLow : getD sheet (sheetRecord * i + 1) 0 ≤ 255
   pub retLow : getD sheet (sheetRecord * i + 2) 0 ≤ 255
   pub fine : not (allowed (getD program i 0)) ≡ false
-  pub next : after ≡ i + lengthOf (getD program i 0)
-  pub whole : after ≤ length program
+  pub nextIs : next ≡ i + lengthOf (getD program i 0)
+  pub whole : next ≤ length program
   pub works : work ≡ depthOr (getD sheet (sheetRecord * i + 1) 0) (takenFrom working (getD program i 0)) (depthAfter working (getD program i 0) (getD sheet (sheetRecord * i + 1) 0))
   pub workTop : work ≤ 255
   pub rets : ret ≡ depthOr (getD sheet (sheetRecord * i + 2) 0) (takenFrom returning (getD program i 0)) (depthAfter returning (getD program i 0) (getD sheet (sheetRecord * i + 2) 0))

@@ -10,7 +10,7 @@ use model::Machine;
 ghost use mathlib.Core.Path.{_≡_};
 ghost use Rattle.model.specs.Machine.{state};
 ghost use Rattle.model.specs.Calls.{loadCall, stepCall, runCall, eventCall, frameCall, admitCall};
-ghost use Rattle.creply.specs.Exported.{left, exported, admitLeft, exportedAdmit};
+ghost use Rattle.creply.specs.Exported.{returned, exported, admitReturned, exportedAdmit};
 
 #[no_mangle]
 pub extern "C" fn uxn_load(
@@ -21,7 +21,7 @@ pub extern "C" fn uxn_load(
     ret: &mut [u8],
     program: &[u8],
 ) -> Reply
-    ensures { λ r. ⌜ left r (now (memory .exit)) (now (devices .exit)) (now (work .exit)) (now (ret .exit))
+    ensures { λ r. ⌜ returned r (now (memory .exit)) (now (devices .exit)) (now (work .exit)) (now (ret .exit))
         ≡ exported (loadCall (now (program .entry)) (state (now (memory .entry)) (now (devices .entry)) (now (work .entry)) (now (ret .entry)) machine)) ⌝ }
 {
     of_load(machine::load(machine, memory, devices, work, ret, program))
@@ -35,7 +35,7 @@ pub extern "C" fn uxn_step(
     work: &mut [u8],
     ret: &mut [u8],
 ) -> Reply
-    ensures { λ r. ⌜ left r (now (memory .exit)) (now (devices .exit)) (now (work .exit)) (now (ret .exit))
+    ensures { λ r. ⌜ returned r (now (memory .exit)) (now (devices .exit)) (now (work .exit)) (now (ret .exit))
         ≡ exported (stepCall (state (now (memory .entry)) (now (devices .entry)) (now (work .entry)) (now (ret .entry)) machine)) ⌝ }
 {
     of_step(machine::step(machine, memory, devices, work, ret))
@@ -50,7 +50,7 @@ pub extern "C" fn uxn_run(
     ret: &mut [u8],
     budget: u32,
 ) -> Reply
-    ensures { λ r. ⌜ left r (now (memory .exit)) (now (devices .exit)) (now (work .exit)) (now (ret .exit))
+    ensures { λ r. ⌜ returned r (now (memory .exit)) (now (devices .exit)) (now (work .exit)) (now (ret .exit))
         ≡ exported (runCall budget (state (now (memory .entry)) (now (devices .entry)) (now (work .entry)) (now (ret .entry)) machine)) ⌝ }
 {
     of_run(machine::run(machine, memory, devices, work, ret, budget))
@@ -66,7 +66,7 @@ pub extern "C" fn uxn_event(
     device: u8,
     budget: u32,
 ) -> Reply
-    ensures { λ r. ⌜ left r (now (memory .exit)) (now (devices .exit)) (now (work .exit)) (now (ret .exit))
+    ensures { λ r. ⌜ returned r (now (memory .exit)) (now (devices .exit)) (now (work .exit)) (now (ret .exit))
         ≡ exported (eventCall device budget (state (now (memory .entry)) (now (devices .entry)) (now (work .entry)) (now (ret .entry)) machine)) ⌝ }
 {
     of_event(machine::event(machine, memory, devices, work, ret, device, budget))
@@ -82,7 +82,7 @@ pub extern "C" fn uxn_frame(
     frame: &[u8],
     budget: u32,
 ) -> Reply
-    ensures { λ r. ⌜ left r (now (memory .exit)) (now (devices .exit)) (now (work .exit)) (now (ret .exit))
+    ensures { λ r. ⌜ returned r (now (memory .exit)) (now (devices .exit)) (now (work .exit)) (now (ret .exit))
         ≡ exported (frameCall (now (frame .entry)) budget (state (now (memory .entry)) (now (devices .entry)) (now (work .entry)) (now (ret .entry)) machine)) ⌝ }
 {
     of_frame(machine::frame(machine, memory, devices, work, ret, frame, budget))
@@ -90,7 +90,7 @@ pub extern "C" fn uxn_frame(
 
 #[no_mangle]
 pub extern "C" fn uxn_admit(program: &[u8], sheet: &mut [u8]) -> u8
-    ensures { λ r. ⌜ admitLeft r (now (sheet .exit)) ≡ exportedAdmit (admitCall (now (program .entry)) (now (sheet .entry))) ⌝ }
+    ensures { λ r. ⌜ admitReturned r (now (sheet .exit)) ≡ exportedAdmit (admitCall (now (program .entry)) (now (sheet .entry))) ⌝ }
 {
     of_admit(admission::admit(program, sheet))
 }

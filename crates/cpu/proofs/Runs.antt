@@ -11,14 +11,14 @@ use borrow.Author.Tests.{leb-true, leb-false}
 use Rattle.model.specs.Machine.{State, state}
 use Rattle.model.specs.Step.{fetched, step, breaks}
 use Rattle.model.specs.Run.{Reply, reply, stepReply, run}
-use Rattle.model.specs.Run.Answer.{Refused, WentOn, Broke, Spent}
-use Rattle.model.specs.Replies.{ofStep}
+use Rattle.model.specs.Run.Answer.{WentOn, Broke, Spent}
 use Rattle.model.specs.declared.Machine.{Machine}
-use Rattle.model.specs.declared.StepReply.{StepReply}
 use Rattle.model.proofs.Runs.{run-broke, run-on}
-use Rattle.model.proofs.StepReply.{the-type}
 use Rattle.operations.specs.After.{executed, byteOf}
-use Rattle.cpu.specs.Ended.{ofEnd, left, endedBy}
+use Rattle.execute.specs.Stepped.{ofStepped}
+use Rattle.execute.specs.declared.Stepped.{Stepped}
+use Rattle.execute.proofs.Stepped.{the-type}
+use Rattle.cpu.specs.Ended.{unspent, ofEnd, endedBy}
 
 -- ---- the byte from its low seven bits and bit 7
 
@@ -30,7 +30,7 @@ pub step-is : (s : State) {t : Reply} → fetched s < 256 → t ≡ executed (by
 unfolding step
 step-is s l h = rw (whole (fetched s) (leb 128 (fetched s)) l refl) at h
 
--- ---- the loop, with n of the budget left
+-- ---- the loop, with n of the budget not spent
 
 -- so many steps before
 abbrev pub more : ℕ → Reply → Reply
@@ -48,7 +48,7 @@ answers h = ap (λ (x : Reply). x .answer) h
 states : {r t : Reply} → r ≡ t → t .state ≡ r .state
 states h = sym (ap (λ (x : Reply). x .state) h)
 
--- a step that went on, and one that broke; no step is refused
+-- a step that went on, and one that broke
 went : (b : Bool) → WentOn ≡ cond b Broke WentOn → b ≡ false
 went true h = let z : _≡_ {A = ℕ} 0 1 = cc in absurd (omega arith)
 went false h = refl
@@ -57,31 +57,25 @@ broke : (b : Bool) → Broke ≡ cond b Broke WentOn → b ≡ true
 broke false h = let z : _≡_ {A = ℕ} 0 1 = cc in absurd (omega arith)
 broke true h = refl
 
-refused : {A : Type 0} (b : Bool) (n : ℕ) → Refused n ≡ cond b Broke WentOn → A
-refused true n h = let z : _≡_ {A = ℕ} 0 1 = cc in absurd (omega arith)
-refused false n h = let z : _≡_ {A = ℕ} 0 1 = cc in absurd (omega arith)
-
-module _ (budget n k : ℕ) (d : n ≡ suc k) (b : n ≤ budget) (s : State) (after : Machine → State) where
-  pub goes-on : (next : Machine) {a : StepReply} → a ≡ StepReply.WentOn next → ofStep after a ≡ stepReply s
-      → more (budget - n) (run n s) ≡ more (budget - k) (run k (after next))
+module _ (budget n k : ℕ) (d : n ≡ suc k) (b : n ≤ budget) (s : State) (stateOf : Machine → State) where
+  pub goes-on : (next : Machine) {a : Stepped} → a ≡ Stepped.WentOn next → ofStepped stateOf a ≡ stepReply s
+      → more (budget - n) (run n s) ≡ more (budget - k) (run k (stateOf next))
   goes-on next e h =
-      let g : reply WentOn 1 0 (after next) ≡ stepReply s = rw e at h in
-      let z : budget - suc k + suc (run k (after next) .steps) ≡ budget - k + run k (after next) .steps = omega arith in
+      let g : reply WentOn 1 0 (stateOf next) ≡ stepReply s = rw e at h in
+      let z : budget - suc k + suc (run k (stateOf next) .steps) ≡ budget - k + run k (stateOf next) .steps = omega arith in
       rw (d, run-on k s (went (breaks s) (answers g)), states g, z)
 
-  pub ends : (a : StepReply) → OneOf (0 ∷ 2 ∷ []) (tagOf the-type a) → ofStep after a ≡ stepReply s
-      → ofEnd budget after (endedBy a k) ≡ more (budget - n) (run n s)
-  ends (StepReply.Refused m r) e h = refused (breaks s) m (answers h)
-  ends (StepReply.WentOn m) e h = absurd (miss (0 ∷ 2 ∷ []) 1 tt e)
-  ends (StepReply.Broke m) e h =
+  pub ends : (a : Stepped) → OneOf (1 ∷ []) (tagOf the-type a) → ofStepped stateOf a ≡ stepReply s
+      → ofEnd budget stateOf (endedBy a k) ≡ more (budget - n) (run n s)
+  ends (Stepped.WentOn m) e h = absurd (miss (1 ∷ []) 0 tt e)
+  ends (Stepped.Broke m) e h =
       let z : budget - suc k + 1 ≡ budget - k = omega arith in
       rw (d, run-broke k s (broke (breaks s) (answers h)), states h, z)
 
--- what is left at the end
-pub left-is : (a : StepReply) (n : ℕ) {budget : ℕ} → n ≤ budget → left (endedBy a n) ≤ budget
-left-is (StepReply.Refused k m) n h = omega arith
-left-is (StepReply.WentOn m) n h = omega arith
-left-is (StepReply.Broke m) n h = h
+-- what is not spent at the end
+pub unspent-is : (a : Stepped) (n : ℕ) {budget : ℕ} → n ≤ budget → unspent (endedBy a n) ≤ budget
+unspent-is (Stepped.WentOn m) n h = omega arith
+unspent-is (Stepped.Broke m) n h = h
 
 pub spent : (budget n : ℕ) (s : State) → n ≤ 0 → reply Spent budget 0 s ≡ more (budget - n) (run n s)
 unfolding run

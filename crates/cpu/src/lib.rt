@@ -1,15 +1,15 @@
 // A step and a run, on buffers of the right lengths.
+use execute::Stepped;
 use execute::execute;
 use model::Machine;
-use model::StepReply;
 ghost use mathlib.Core.Path.{_≡_};
 ghost use Prim.Native.Nat.{_≤_};
 ghost use Rattle.model.specs.Machine.{state, Sized};
 ghost use Rattle.model.specs.Run as model;
-ghost use Rattle.model.specs.Replies.{ofStep};
-ghost use Rattle.cpu.specs.Ended.{ofEnd, left, endedBy};
+ghost use Rattle.execute.specs.Stepped.{ofStepped};
+ghost use Rattle.cpu.specs.Ended.{unspent, ofEnd, endedBy};
 
-// How a run ended, with the machine record afterwards and the part of the budget that is left: the loop counts down, and its
+// How a run ended, with the machine record afterwards and the part of the budget that is not spent: the loop counts down, and its
 // callers count the steps.
 pub enum End {
     Broke(Machine, u32),
@@ -23,9 +23,9 @@ pub fn step(
     devices: &mut [u8],
     work: &mut [u8],
     ret: &mut [u8],
-) -> StepReply
+) -> Stepped
     requires { ⌜ Sized (state (now memory) (now devices) (now work) (now ret) m) ⌝ }
-    ensures { λ r. ⌜ ofStep (state (now (memory .exit)) (now (devices .exit)) (now (work .exit)) (now (ret .exit))) r
+    ensures { λ r. ⌜ ofStepped (state (now (memory .exit)) (now (devices .exit)) (now (work .exit)) (now (ret .exit))) r
         ≡ model.stepReply (state (now (memory .entry)) (now (devices .entry)) (now (work .entry)) (now (ret .entry)) m) ⌝ }
 {
     let at = m.pc;
@@ -33,14 +33,13 @@ pub fn step(
     execute(m, memory, devices, work, ret, byte % 128, 128 <= byte)
 }
 
-// The end of a run whose last step gave this reply. On buffers of the right lengths no step is refused.
-fn ended(reply: StepReply, left: u32) -> End
+// The end of a run whose last step answered this.
+fn ended(reply: Stepped, left: u32) -> End
     ensures { λ r. ⌜ r ≡ endedBy reply left ⌝ }
 {
     match reply {
-        StepReply::Refused(_, m) => End::Spent(m),
-        StepReply::WentOn(m) => End::Spent(m),
-        StepReply::Broke(m) => End::Broke(m, left),
+        Stepped::WentOn(m) => End::Spent(m),
+        Stepped::Broke(m) => End::Broke(m, left),
     }
 }
 
@@ -56,7 +55,7 @@ pub fn run(
     requires { ⌜ Sized (state (now memory) (now devices) (now work) (now ret) m) ⌝ }
     ensures { λ r. ⌜ (ofEnd budget (state (now (memory .exit)) (now (devices .exit)) (now (work .exit)) (now (ret .exit))) r
         ≡ model.run budget (state (now (memory .entry)) (now (devices .entry)) (now (work .entry)) (now (ret .entry)) m))
-        × (left r ≤ budget) ⌝ }
+        × (unspent r ≤ budget) ⌝ }
 {
     let mut pc = m.pc;
     let mut wp = m.wp;
@@ -65,7 +64,7 @@ pub fn run(
     while 0 < left {
         let reply = step(Machine { pc, wp, rp }, memory, devices, work, ret);
         left -= 1;
-        let StepReply::WentOn(next) = reply else {
+        let Stepped::WentOn(next) = reply else {
             return ended(reply, left);
         };
         pc = next.pc;

@@ -8,15 +8,15 @@ use Rattle.model.specs.Calls.{numberOf, AdmitResult}
 use Rattle.model.specs.declared.Machine.{Machine}
 use Rattle.creply.specs.declared.Reply as C
 
-pub record Left : Type 0 where
+pub record Returned : Type 0 where
   pub reply : C.Reply
   pub memory : List ℕ
   pub devices : List ℕ
   pub work : List ℕ
   pub ret : List ℕ
 
-abbrev pub left : C.Reply → List ℕ → List ℕ → List ℕ → List ℕ → Left
-left reply memory devices work ret = record { reply = reply; memory = memory; devices = devices; work = work; ret = ret }
+abbrev pub returned : C.Reply → List ℕ → List ℕ → List ℕ → List ℕ → Returned
+returned reply memory devices work ret = record { reply = reply; memory = memory; devices = devices; work = work; ret = ret }
 
 -- UXN_REFUSED, UXN_LOADED, UXN_WENT_ON, UXN_BROKE, UXN_SPENT, UXN_IGNORED. Admission is no call on a machine
 abbrev pub answerOf : Answer → ℕ
@@ -29,26 +29,26 @@ answerOf Ignored = 5
 answerOf Admitted = 6
 
 -- the struct of a refusal, and of an answer to what was done
-abbrev pub refusal : ℕ → Machine → C.Reply
-refusal number m = record { machine = m; steps = 0; number = number; answer = 0; verdict = 0 }
+abbrev pub refusedStruct : ℕ → Machine → C.Reply
+refusedStruct number m = record { machine = m; steps = 0; number = number; answer = 0; verdict = 0 }
 
-abbrev pub doing : ℕ → Machine → ℕ → ℕ → C.Reply
-doing answer m steps verdict = record { machine = m; steps = steps; number = 0; answer = answer; verdict = verdict }
+abbrev pub doneStruct : ℕ → Machine → ℕ → ℕ → C.Reply
+doneStruct answer m steps verdict = record { machine = m; steps = steps; number = 0; answer = answer; verdict = verdict }
 
 -- the reply of a call, as the static library gives it
-abbrev pub exported : Reply → Left
+abbrev pub exported : Reply → Returned
 exported r =
-    left
+    returned
     (record { machine = registers (r .state); steps = r .steps; number = numberOf (r .answer); answer = answerOf (r .answer); verdict = r .verdict })
     (r .state .memory) (r .state .devices) (r .state .work .bytes) (r .state .ret .bytes)
 
 -- What uxn_admit leaves: 0 or the number, and the sheet.
-pub record AdmitLeft : Type 0 where
+pub record AdmitReturned : Type 0 where
   pub number : ℕ
   pub sheet : List ℕ
 
-abbrev pub admitLeft : ℕ → List ℕ → AdmitLeft
-admitLeft number sheet = record { number = number; sheet = sheet }
+abbrev pub admitReturned : ℕ → List ℕ → AdmitReturned
+admitReturned number sheet = record { number = number; sheet = sheet }
 
-abbrev pub exportedAdmit : AdmitResult → AdmitLeft
-exportedAdmit r = admitLeft (numberOf (r .answer)) (r .sheet)
+abbrev pub exportedAdmit : AdmitResult → AdmitReturned
+exportedAdmit r = admitReturned (numberOf (r .answer)) (r .sheet)

@@ -11,7 +11,7 @@ ghost use mathlib.Core.List.{List};
 ghost use Prim.Native.Nat.{ℕ};
 ghost use Rattle.model.specs.Machine.{state};
 ghost use Rattle.model.specs.Replies.{ofLoad, ofStep, ofRun, ofEvent, ofFrame, ofAdmit};
-ghost use Rattle.creply.specs.Exported.{refusal, doing, left, exported, admitLeft, exportedAdmit};
+ghost use Rattle.creply.specs.Exported.{refusedStruct, doneStruct, returned, exported, admitReturned, exportedAdmit};
 
 // The answers, as numbers.
 pub const REFUSED: u8 = 0;
@@ -38,7 +38,7 @@ pub struct Reply {
 }
 
 fn refused(number: u8, machine: Machine) -> Reply
-    ensures { λ r. ⌜ r ≡ refusal number machine ⌝ }
+    ensures { λ r. ⌜ r ≡ refusedStruct number machine ⌝ }
 {
     Reply {
         machine,
@@ -50,7 +50,7 @@ fn refused(number: u8, machine: Machine) -> Reply
 }
 
 fn done(answer: u8, machine: Machine, steps: u32, verdict: u8) -> Reply
-    ensures { λ r. ⌜ r ≡ doing answer machine steps verdict ⌝ }
+    ensures { λ r. ⌜ r ≡ doneStruct answer machine steps verdict ⌝ }
 {
     Reply {
         machine,
@@ -62,7 +62,7 @@ fn done(answer: u8, machine: Machine, steps: u32, verdict: u8) -> Reply
 }
 
 pub fn of_load(reply: LoadReply) -> Reply
-    ensures { λ r. ⌜ ((p q w t : List ℕ) → left r p q w t ≡ exported (ofLoad (state p q w t) reply)) ⌝ }
+    ensures { λ r. ⌜ ((p q w t : List ℕ) → returned r p q w t ≡ exported (ofLoad (state p q w t) reply)) ⌝ }
 {
     match reply {
         LoadReply::Refused(n, m) => refused(n, m),
@@ -71,7 +71,7 @@ pub fn of_load(reply: LoadReply) -> Reply
 }
 
 pub fn of_step(reply: StepReply) -> Reply
-    ensures { λ r. ⌜ ((p q w t : List ℕ) → left r p q w t ≡ exported (ofStep (state p q w t) reply)) ⌝ }
+    ensures { λ r. ⌜ ((p q w t : List ℕ) → returned r p q w t ≡ exported (ofStep (state p q w t) reply)) ⌝ }
 {
     match reply {
         StepReply::Refused(n, m) => refused(n, m),
@@ -81,7 +81,7 @@ pub fn of_step(reply: StepReply) -> Reply
 }
 
 pub fn of_run(reply: RunReply) -> Reply
-    ensures { λ r. ⌜ ((p q w t : List ℕ) → left r p q w t ≡ exported (ofRun (state p q w t) reply)) ⌝ }
+    ensures { λ r. ⌜ ((p q w t : List ℕ) → returned r p q w t ≡ exported (ofRun (state p q w t) reply)) ⌝ }
 {
     match reply {
         RunReply::Refused(n, m) => refused(n, m),
@@ -91,7 +91,7 @@ pub fn of_run(reply: RunReply) -> Reply
 }
 
 pub fn of_event(reply: EventReply) -> Reply
-    ensures { λ r. ⌜ ((p q w t : List ℕ) → left r p q w t ≡ exported (ofEvent (state p q w t) reply)) ⌝ }
+    ensures { λ r. ⌜ ((p q w t : List ℕ) → returned r p q w t ≡ exported (ofEvent (state p q w t) reply)) ⌝ }
 {
     match reply {
         EventReply::Refused(n, m) => refused(n, m),
@@ -102,7 +102,7 @@ pub fn of_event(reply: EventReply) -> Reply
 }
 
 pub fn of_frame(reply: FrameReply) -> Reply
-    ensures { λ r. ⌜ ((p q w t : List ℕ) → left r p q w t ≡ exported (ofFrame (state p q w t) reply)) ⌝ }
+    ensures { λ r. ⌜ ((p q w t : List ℕ) → returned r p q w t ≡ exported (ofFrame (state p q w t) reply)) ⌝ }
 {
     match reply {
         FrameReply::Refused(n, m) => refused(n, m),
@@ -113,7 +113,7 @@ pub fn of_frame(reply: FrameReply) -> Reply
 
 // 0 for a program that is admitted.
 pub fn of_admit(reply: AdmitReply) -> u8
-    ensures { λ r. ⌜ ((sheet : List ℕ) → admitLeft r sheet ≡ exportedAdmit (ofAdmit sheet reply)) ⌝ }
+    ensures { λ r. ⌜ ((sheet : List ℕ) → admitReturned r sheet ≡ exportedAdmit (ofAdmit sheet reply)) ⌝ }
 {
     match reply {
         AdmitReply::Refused(n) => n,

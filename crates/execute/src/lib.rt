@@ -1,7 +1,6 @@
 // One instruction, by the low seven bits of its byte: below 40 its main stack is the working stack, from 40 on the return
 // stack; bit 7 is keep.
 use model::Machine;
-use model::StepReply;
 use operations::compare;
 use operations::compute;
 use operations::dup;
@@ -32,8 +31,14 @@ use transfers::stz;
 ghost use mathlib.Core.Path.{_≡_};
 ghost use Prim.Native.Nat.{_<_};
 ghost use Rattle.model.specs.Machine.{state, Sized};
-ghost use Rattle.model.specs.Replies.{ofStep};
 ghost use Rattle.operations.specs.After.{executed, byteOf};
+ghost use Rattle.execute.specs.Stepped.{ofStepped};
+
+// What a step answers: it went on, or it was BRK. On buffers of the right lengths none is refused.
+pub enum Stepped {
+    WentOn(Machine),
+    Broke(Machine),
+}
 
 // Each arm is an operation in 8-bit or 16-bit form; the arms 00, 20, 40 and 60 are the exceptions, LIT where keep is set and else
 // BRK, JCI, JMI and JSI.
@@ -45,9 +50,9 @@ pub fn execute(
     ret: &mut [u8],
     key: u8,
     keep: bool,
-) -> StepReply
+) -> Stepped
     requires { ⌜ Sized (state (now memory) (now devices) (now work) (now ret) m) × (key < 128) ⌝ }
-    ensures { λ r. ⌜ ofStep (state (now (memory .exit)) (now (devices .exit)) (now (work .exit)) (now (ret .exit))) r
+    ensures { λ r. ⌜ ofStepped (state (now (memory .exit)) (now (devices .exit)) (now (work .exit)) (now (ret .exit))) r
         ≡ executed (byteOf key keep) (state (now (memory .entry)) (now (devices .entry)) (now (work .entry)) (now (ret .entry)) m) ⌝ }
 {
     let at = m.pc;
@@ -60,7 +65,7 @@ pub fn execute(
                 pc = wrapping_add_u16(at, 2);
                 wp = lit(memory, work, at, wp, false);
             } else {
-                return StepReply::Broke(Machine { pc, wp, rp });
+                return Stepped::Broke(Machine { pc, wp, rp });
             }
         }
         0x01 => wp = inc(work, wp, false, keep),
@@ -318,5 +323,5 @@ pub fn execute(
         0x7e => rp = compute(ret, rp, true, keep, 6),
         _ => rp = sft(ret, rp, true, keep),
     }
-    StepReply::WentOn(Machine { pc, wp, rp })
+    Stepped::WentOn(Machine { pc, wp, rp })
 }

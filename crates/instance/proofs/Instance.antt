@@ -50,7 +50,7 @@ filter-bytes = all-bytes filter tt
 -- ---- calls
 
 filling : Filling 256
-filling = record { bytes = replicate 256 0xA5; size = refl; low = all-bytes (replicate 256 0xA5) tt }
+filling = record { bytes = replicate 256 0xA5; size = refl; areBytes = all-bytes (replicate 256 0xA5) tt }
 
 -- the lent buffers, the frame and the budget
 abbrev call : Lent memorySize → Lent pageSize → Lent stackSize → Lent stackSize → (frame : List ℕ) → T (allBytes frame) → ℕ → Call
@@ -65,7 +65,7 @@ call memory devices work ret frame t budget =
       work = work;
       ret = ret;
       frame = frame;
-      low = all-bytes frame t;
+      frameBytes = all-bytes frame t;
       budget = budget;
     }
 

@@ -50,18 +50,18 @@ resized a b c d m n z = record { memory = z .memory; devices = z .devices; work 
 -- ---- what a run replies
 
 -- the replies of a run, an event and a frame say what the end of the run says
-module _ (after : Machine → State) (budget : ℕ) where
-  pub run-is : (e : End) → ofRun after (runOf budget e) ≡ ofEnd budget after e
-  run-is (End.Broke m left) = refl
+module _ (stateOf : Machine → State) (budget : ℕ) where
+  pub run-is : (e : End) → ofRun stateOf (runOf budget e) ≡ ofEnd budget stateOf e
+  run-is (End.Broke m n) = refl
   run-is (End.Spent m) = refl
 
-  pub event-is : (e : End) → ofEvent after (eventOf budget e) ≡ ofEnd budget after e
-  event-is (End.Broke m left) = refl
+  pub event-is : (e : End) → ofEvent stateOf (eventOf budget e) ≡ ofEnd budget stateOf e
+  event-is (End.Broke m n) = refl
   event-is (End.Spent m) = refl
 
-  pub frame-is : (verdict : ℕ) (e : End) → ((m : Machine) → verdict ≡ getD (after m .devices) verdictPort 0)
-      → ofFrame after (frameOf budget e verdict) ≡ withVerdict (ofEnd budget after e)
-  frame-is verdict (End.Broke m left) h = rw (h m)
+  pub frame-is : (verdict : ℕ) (e : End) → ((m : Machine) → verdict ≡ getD (stateOf m .devices) verdictPort 0)
+      → ofFrame stateOf (frameOf budget e verdict) ≡ withVerdict (ofEnd budget stateOf e)
+  frame-is verdict (End.Broke m n) h = rw (h m)
   frame-is verdict (End.Spent m) h = refl
 
 -- a run with budget 1
@@ -73,15 +73,15 @@ one-step s = by (breaks s) refl
     by true e = run-broke 0 s e
     by false e = run-on 0 s e
 
-stepped : (after : Machine → State) (b : Bool) (t : State) (e : End) → ofEnd 1 after e ≡ reply (cond b Broke Spent) 1 0 t
-    → ofStep after (stepOf e) ≡ reply (cond b Broke WentOn) 1 0 t
-stepped after true t (End.Broke m left) h = ap (λ (r : Reply). reply Broke 1 0 (r .state)) h
-stepped after true t (End.Spent m) h = let a = answers h in let z : _≡_ {A = ℕ} 0 1 = cc in absurd (omega arith)
-stepped after false t (End.Broke m left) h = let a = answers h in let z : _≡_ {A = ℕ} 0 1 = cc in absurd (omega arith)
-stepped after false t (End.Spent m) h = ap (λ (r : Reply). reply WentOn 1 0 (r .state)) h
+stepped : (stateOf : Machine → State) (b : Bool) (t : State) (e : End) → ofEnd 1 stateOf e ≡ reply (cond b Broke Spent) 1 0 t
+    → ofStep stateOf (stepOf e) ≡ reply (cond b Broke WentOn) 1 0 t
+stepped stateOf true t (End.Broke m n) h = ap (λ (r : Reply). reply Broke 1 0 (r .state)) h
+stepped stateOf true t (End.Spent m) h = let a = answers h in let z : _≡_ {A = ℕ} 0 1 = cc in absurd (omega arith)
+stepped stateOf false t (End.Broke m n) h = let a = answers h in let z : _≡_ {A = ℕ} 0 1 = cc in absurd (omega arith)
+stepped stateOf false t (End.Spent m) h = ap (λ (r : Reply). reply WentOn 1 0 (r .state)) h
 
-pub step-is : (after : Machine → State) (s : State) (e : End) → ofEnd 1 after e ≡ run 1 s → ofStep after (stepOf e) ≡ stepReply s
-step-is after s e h = stepped after (breaks s) (step s) e (h ∙ one-step s)
+pub step-is : (stateOf : Machine → State) (s : State) (e : End) → ofEnd 1 stateOf e ≡ run 1 s → ofStep stateOf (stepOf e) ≡ stepReply s
+step-is stateOf s e h = stepped stateOf (breaks s) (step s) e (h ∙ one-step s)
 
 -- ---- load
 

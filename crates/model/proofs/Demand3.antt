@@ -37,7 +37,7 @@ module _ (filter sheet : List ℕ) (written : Smallest filter sheet) (most : len
         marked = (rule .placed, ap (λ b. getD b 0 0) entry);
         work = sym (ap (λ b. getD b 1 0) entry);
         ret = sym (ap (λ b. getD b 2 0) entry);
-        level = no-wrap filter (markIn sheet) (written .assigned) most bytes s at;
+        noWrap = no-wrap filter (markIn sheet) (written .assigned) most bytes s at;
         intact = at .intact;
       }
 
@@ -69,7 +69,7 @@ module _ (filter sheet : List ℕ) (written : Smallest filter sheet) (most : len
       let y = filled-whole c s z in
       let j = same-above s (filled c s) (filled-above c s) i in
       next-by (λ t m. Every (Sound filter sheet) t × Intact filter m) c s (tt, j)
-      (λ right l. run-sound (c .budget) _ (starts (c .frame) (filled c s) l (c .low) y j))
+      (λ right l. run-sound (c .budget) _ (starts (c .frame) (filled c s) l (c .frameBytes) y j))
 
   list-safe : (s : State) → Whole s → Intact filter s → (calls : List Call) → Safe filter sheet s calls
   list-safe s z i [] = i

@@ -22,7 +22,7 @@ use Rattle.model.proofs.Steps.{step-range, moved, execute-moved}
 use Rattle.model.proofs.Changes.{execute-kept, length-is, stz-above}
 use Rattle.model.proofs.Computing.{decoding}
 use Rattle.model.proofs.EveryByte.{every-byte}
-use Rattle.model.proofs.Wraps.{pop-level, push-level}
+use Rattle.model.proofs.Wraps.{pop-no-wrap, push-no-wrap}
 
 -- ---- what the allowed instructions may do
 
@@ -56,24 +56,24 @@ allowed-above byte s h t z = by (eqb (byte % 64) 0x11) refl
 -- ---- depths and pointers
 
 -- n bytes are taken, but under keep, and m pushed: where the stack holds them, and has room, nothing goes round
-level : (keep : Bool) (n m p : ℕ) → n ≤ p → p - cond keep 0 n + m ≤ 255
+room : (keep : Bool) (n m p : ℕ) → n ≤ p → p - cond keep 0 n + m ≤ 255
     → (p + 255 * cond keep 0 n + m) % 256 ≡ p - cond keep 0 n + m
-level true n m p h l = omega arith
-level false n m p h l = omega arith
+room true n m p h l = omega arith
+room false n m p h l = omega arith
 
-lowered-level : (keep : Bool) (n p : ℕ) → n ≤ p → p ≤ 255 → lowered keep n p ≡ p - cond keep 0 n
-lowered-level keep n p h l = lowered-is keep n p (omega arith) ∙ omega (arith, level keep n 0 p h (omega arith))
+lowered-no-wrap : (keep : Bool) (n p : ℕ) → n ≤ p → p ≤ 255 → lowered keep n p ≡ p - cond keep 0 n
+lowered-no-wrap keep n p h l = lowered-is keep n p (omega arith) ∙ omega (arith, room keep n 0 p h (omega arith))
 
 -- the pointer after an instruction is the depth after it
-moved-level : (k byte p : ℕ) → takenFrom k byte ≤ p → depthAfter k byte p ≤ 255 → moved k (keepMode byte) (rowOf byte) p ≡ depthAfter k byte p
-moved-level k byte p h l = omega (arith, level (keepMode byte) (takenFrom k byte) (pushedOn k byte) p h (omega arith))
+moved-no-wrap : (k byte p : ℕ) → takenFrom k byte ≤ p → depthAfter k byte p ≤ 255 → moved k (keepMode byte) (rowOf byte) p ≡ depthAfter k byte p
+moved-no-wrap k byte p h l = omega (arith, room (keepMode byte) (takenFrom k byte) (pushedOn k byte) p h (omega arith))
 
 -- and it wraps no stack
-stack-level : (k byte p : ℕ) → p ≤ 255 → takenFrom k byte ≤ p → depthAfter k byte p ≤ 255 → stackWraps k byte p ≡ false
+stack-no-wrap : (k byte p : ℕ) → p ≤ 255 → takenFrom k byte ≤ p → depthAfter k byte p ≤ 255 → stackWraps k byte p ≡ false
 unfolding stackWraps
-stack-level k byte p low h l =
-    rw (pop-level (takenFrom k byte) p (omega arith) h, lowered-level (keepMode byte) (takenFrom k byte) p h low)
-    (push-level (pushedOn k byte) _ (omega arith))
+stack-no-wrap k byte p low h l =
+    rw (pop-no-wrap (takenFrom k byte) p (omega arith) h, lowered-no-wrap (keepMode byte) (takenFrom k byte) p h low)
+    (push-no-wrap (pushedOn k byte) _ (omega arith))
 
 -- ---- one step
 
@@ -120,8 +120,8 @@ module _ (program : List ℕ) (marks : ℕ → Mark) (assigned : Assignment prog
   pub no-wrap : wraps s ≡ false
   unfolding wraps
   no-wrap =
-      rw (fetched-is, stack-level working byte (s .work .pointer) (rule .workLow) (omega (arith, rule .work)) (rule .workTop))
-      (stack-level returning byte (s .ret .pointer) (rule .retLow) (omega (arith, rule .ret)) (rule .retTop))
+      rw (fetched-is, stack-no-wrap working byte (s .work .pointer) (rule .workLow) (omega (arith, rule .work)) (rule .workTop))
+      (stack-no-wrap returning byte (s .ret .pointer) (rule .retLow) (omega (arith, rule .ret)) (rule .retTop))
 
   pub above : drop start (step s .memory) ≡ drop start (s .memory)
   unfolding step
@@ -131,8 +131,8 @@ module _ (program : List ℕ) (marks : ℕ → Mark) (assigned : Assignment prog
   pointers : marked (execute byte s .work .pointer) (execute byte s .ret .pointer) ≡ markAfter byte (s .work .pointer) (s .ret .pointer)
   pointers =
       let m = execute-moved byte s (at .range) in
-      let w = m .work ∙ moved-level working byte (s .work .pointer) (omega (arith, rule .work)) (rule .workTop) in
-      let r = m .ret ∙ moved-level returning byte (s .ret .pointer) (omega (arith, rule .ret)) (rule .retTop) in
+      let w = m .work ∙ moved-no-wrap working byte (s .work .pointer) (omega (arith, rule .work)) (rule .workTop) in
+      let r = m .ret ∙ moved-no-wrap returning byte (s .ret .pointer) (omega (arith, rule .ret)) (rule .retTop) in
       rw (w, r)
 
   abbrev mark : Mark

@@ -12,7 +12,7 @@ use lib.Seq.{getD-set-same}
 use borrow.Author.Tests.{le-ltb}
 use Rattle.model.specs.Bytes.{Every}
 use Rattle.model.specs.Machine.{start}
-use Rattle.model.specs.Admission.{Mark, byteAt, successors, GoesOn, Assignment, Assignable, markAt, sameMark, all, ruleTests, goesOn, fits, fitsFrom, assigns, keepMark, markOne, markEach, follow, sweep, sweeps, reached, admitted}
+use Rattle.model.specs.Admission.{Mark, countMarked, byteAt, successors, GoesOn, Assignment, Assignable, markAt, sameMark, all, ruleTests, goesOn, fits, fitsFrom, assigns, keepMark, markOne, markEach, follow, sweep, sweeps, reached, admitted}
 use Rattle.model.specs.Admission.Mark.{unmarked, marked}
 use Rattle.model.proofs.Changes.{length-is}
 use Rattle.model.proofs.Tests.{and-both}
@@ -96,33 +96,28 @@ module _ (program : List ℕ) where
 
 -- ---- as many sweeps as the program has bytes are enough: one more changes nothing
 
-unfoldable pub count : List Mark → ℕ
-count [] = 0
-count (unmarked ∷ x) = count x
-count (marked w r ∷ x) = suc (count x)
-
-pub count-most : (x : List Mark) → count x ≤ length x
-unfolding count
+pub count-most : (x : List Mark) → countMarked x ≤ length x
+unfolding countMarked
 count-most [] = omega arith
 count-most (unmarked ∷ x) = omega (arith, count-most x)
 count-most (marked w r ∷ x) = omega (arith, count-most x)
 
 -- the same marks, or more of them
 abbrev Grown : List Mark → List Mark → Type 0
-Grown x y = (y ≡ x) ⊎ (count x < count y)
+Grown x y = (y ≡ x) ⊎ (countMarked x < countMarked y)
 
 grown-cons : (a : Mark) {x y : List Mark} → Grown x y → Grown (a ∷ x) (a ∷ y)
-unfolding count
+unfolding countMarked
 grown-cons a (inl e) = inl (ap (λ l. a ∷ l) e)
 grown-cons unmarked (inr h) = inr h
 grown-cons (marked w r) (inr h) = inr (omega arith)
 
-grown-count : {x y : List Mark} → Grown x y → count x ≤ count y
+grown-count : {x y : List Mark} → Grown x y → countMarked x ≤ countMarked y
 grown-count (inl e) = rw e (omega arith)
 grown-count (inr h) = omega arith
 
 grown : {x y : List Mark} → Grows x y → Grown x y
-unfolding count
+unfolding countMarked
 grown none = inl refl
 grown (same {a = a} g) = grown-cons a (grown g)
 grown (more g) = inr (omega (arith, grown-count (grown g)))
@@ -137,7 +132,7 @@ module _ (program : List ℕ) where
   still-on zero x e = refl
   still-on (suc n) x e = ap (sweeps program n) e ∙ still-on n x e
 
-  still-or-more : (n : ℕ) (x : List Mark) → Still (sweeps program n x) ⊎ (count x + n ≤ count (sweeps program n x))
+  still-or-more : (n : ℕ) (x : List Mark) → Still (sweeps program n x) ⊎ (countMarked x + n ≤ countMarked (sweeps program n x))
   unfolding sweeps
   still-or-more zero x = inr (omega arith)
   still-or-more (suc n) x = by (grown (grows-sweep program (length program) start x)) (still-or-more n y)
@@ -145,8 +140,8 @@ module _ (program : List ℕ) where
       y : List Mark
       y = sweep program (length program) start x
 
-      by : Grown x y → Still (sweeps program n y) ⊎ (count y + n ≤ count (sweeps program n y))
-          → Still (sweeps program n y) ⊎ (count x + suc n ≤ count (sweeps program n y))
+      by : Grown x y → Still (sweeps program n y) ⊎ (countMarked y + n ≤ countMarked (sweeps program n y))
+          → Still (sweeps program n y) ⊎ (countMarked x + suc n ≤ countMarked (sweeps program n y))
       by (inl e) ih = inl (rw (e, still-on n x e) e)
       by (inr h) (inl s) = inl s
       by (inr h) (inr l) = inr (omega arith)
@@ -256,14 +251,14 @@ blank-mark zero i = refl
 blank-mark (suc n) zero = refl
 blank-mark (suc n) (suc i) = blank-mark n i
 
-blank-count : (n : ℕ) → count (replicate n unmarked) ≡ 0
-unfolding count
+blank-count : (n : ℕ) → countMarked (replicate n unmarked) ≡ 0
+unfolding countMarked
 blank-count zero = refl
 blank-count (suc n) = blank-count n
 
 -- it is there, and it is the only one
-pub begun-first : (n : ℕ) → 0 < n → (getD (begun n) 0 unmarked ≡ marked 0 0) × (count (begun n) ≡ 1)
-unfolding count
+pub begun-first : (n : ℕ) → 0 < n → (getD (begun n) 0 unmarked ≡ marked 0 0) × (countMarked (begun n) ≡ 1)
+unfolding countMarked
 begun-first zero h = absurd (omega arith)
 begun-first (suc n) h = (refl, ap suc (blank-count n))
 

@@ -20,6 +20,12 @@ pub data Mark : Type 0 where
   unmarked : Mark
   marked : ℕ → ℕ → Mark
 
+-- how many of the addresses are marked
+unfoldable pub countMarked : List Mark → ℕ
+countMarked [] = 0
+countMarked (unmarked ∷ marks) = countMarked marks
+countMarked (marked w r ∷ marks) = suc (countMarked marks)
+
 -- the byte of a program at an address
 unfoldable pub byteAt : List ℕ → ℕ → ℕ
 byteAt program at = getD program (at - start) 0
@@ -48,12 +54,12 @@ unfoldable pub successors : List ℕ → ℕ → ℕ → ℕ → List (ℕ × Ma
 successors program at w r =
     let byte = byteAt program at in
     let mark = markAfter byte w r in
-    let after = at + lengthOf byte in
-    let target = offset after (number (byteAt program (at + 1) ∷ byteAt program (at + 2) ∷ [])) in
+    let next = at + lengthOf byte in
+    let target = offset next (number (byteAt program (at + 1) ∷ byteAt program (at + 2) ∷ [])) in
     cond (eqb byte 0x00) []
-    (cond (eqb byte 0x20) ((after, mark) ∷ (target, mark) ∷ [])
+    (cond (eqb byte 0x20) ((next, mark) ∷ (target, mark) ∷ [])
     (cond (eqb byte 0x40) ((target, mark) ∷ [])
-    ((after, mark) ∷ [])))
+    ((next, mark) ∷ [])))
 
 -- ---- the rules, for marks of any kind
 

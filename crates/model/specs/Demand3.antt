@@ -19,7 +19,7 @@ use Rattle.model.specs.Exactness.{Exact}
 pub record Filling (n : ℕ) : Type 0 where
   pub bytes : List ℕ
   pub size : length bytes ≡ n
-  pub low : Bytes bytes
+  pub areBytes : Bytes bytes
 
 -- the machine's own buffer of n bytes, or in its place another one, of wrong length
 pub data Lent (n : ℕ) : Type 0 where
@@ -40,7 +40,7 @@ pub record Call : Type 0 where
   pub ret : Lent stackSize
   -- "whatever their records and budgets": any bytes, as many as there may be, and any number
   pub frame : List ℕ
-  pub low : Bytes frame
+  pub frameBytes : Bytes frame
   pub budget : ℕ
 
 -- the machine before the call, the bytes put in
@@ -59,8 +59,8 @@ lent own mine = mine
 lent (other bytes wrong) mine = bytes
 
 abbrev pub back : {n : ℕ} → Lent n → List ℕ → List ℕ → List ℕ
-back own mine left = left
-back (other bytes wrong) mine left = mine
+back own mine afterwards = afterwards
+back (other bytes wrong) mine afterwards = mine
 
 -- what the call gets, the machine being s
 unfoldable pub given : Call → State → State
@@ -105,7 +105,7 @@ pub record Sound (filter sheet : List ℕ) (s : State) : Type 0 where
   pub work : s .work .pointer ≡ recordByte sheet (s .pc) 1
   pub ret : s .ret .pointer ≡ recordByte sheet (s .pc) 2
   -- "No step wraps a stack."
-  pub level : wraps s ≡ false
+  pub noWrap : wraps s ≡ false
   -- "Before every step .. every byte of the filter in memory is the one loaded."
   pub intact : Intact filter s
 

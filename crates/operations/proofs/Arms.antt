@@ -13,7 +13,7 @@ use Rattle.model.specs.Instruction.Op.{JCI, INC, POP, NIP, SWP, ROT, DUP, OVR, 
 use Rattle.model.specs.Step.{offset, effect, effectOn, words, mainAfter, otherAfter, written, applied, exchanged, operated, execute}
 use Rattle.model.specs.Run.{reply}
 use Rattle.model.specs.Run.Answer.{WentOn, Broke}
-use Rattle.operations.specs.After.{after, executed, byteOf}
+use Rattle.operations.specs.After.{mainWith, executed, byteOf}
 
 -- the state after an operation, its main stack being the working stack, part by part
 abbrev pub left : List ℕ → List ℕ → Stack → Stack → ℕ → State
@@ -56,7 +56,7 @@ by-size f false k p h = h
 
 -- n is the address after the instruction byte, q the pointer of the main stack afterwards
 module _ (w k : Bool) (s : State) {n : ℕ} (hn : n ≡ (s .pc + 1) % 65536) where
-  pub pure-is : {m d : List ℕ} {a : ℕ} {o : Op} {t : Stack} → Pure s n m d a o → t ≡ after m d a o w k (s .work)
+  pub pure-is : {m d : List ℕ} {a : ℕ} {o : Op} {t : Stack} → Pure s n m d a o → t ≡ mainWith m d a o w k (s .work)
       → left (s .memory) (s .devices) t (s .ret) n ≡ applied o w k s
   unfolding opened
   pure-is inc g = rw (g, hn)

@@ -11,8 +11,8 @@ use Rattle.model.specs.Run.{Reply, reply}
 use Rattle.model.specs.Run.Answer.{WentOn, Broke}
 
 -- the main stack after an operation, with the memory, the device page and the next address that it may use
-abbrev pub after : (memory devices : List ℕ) (next : ℕ) → Op → Bool → Bool → Stack → Stack
-after memory devices next o w keep s = mainAfter o w keep (effectOn memory devices next 0 o w s) s
+abbrev pub mainWith : (memory devices : List ℕ) (next : ℕ) → Op → Bool → Bool → Stack → Stack
+mainWith memory devices next o w keep s = mainAfter o w keep (effectOn memory devices next 0 o w s) s
 
 -- the reply of a step that carries out this byte
 abbrev pub executed : ℕ → State → Reply

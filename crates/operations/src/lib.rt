@@ -15,12 +15,12 @@ ghost use lib.ListN.{length};
 ghost use Rattle.alu.specs.Numbers.{arithmeticAt, comparisonAt};
 ghost use Rattle.model.specs.Machine.{stackSize, stack};
 ghost use Rattle.model.specs.Instruction.Op.{INC, POP, NIP, SWP, ROT, DUP, OVR, compare, compute, SFT};
-ghost use Rattle.operations.specs.After.{after};
+ghost use Rattle.operations.specs.After.{mainWith};
 
 // INC a: a+1.
 pub fn inc(s: &mut [u8], p: u8, wide: bool, keep: bool) -> u8
     requires { ⌜ length (now s) ≡ stackSize ⌝ }
-    ensures { λ r. ⌜ stack (now (s .exit)) r ≡ after [] [] 0 INC wide keep (stack (now (s .entry)) p) ⌝ }
+    ensures { λ r. ⌜ stack (now (s .exit)) r ≡ mainWith [] [] 0 INC wide keep (stack (now (s .entry)) p) ⌝ }
 {
     let n = size_of(wide);
     let x = operands(s, p, n, 0, 0);
@@ -30,7 +30,7 @@ pub fn inc(s: &mut [u8], p: u8, wide: bool, keep: bool) -> u8
 // POP a: nothing.
 pub fn pop(s: &[u8], p: u8, wide: bool, keep: bool) -> u8
     requires { ⌜ length (now s) ≡ stackSize ⌝ }
-    ensures { λ r. ⌜ stack (now (s .entry)) r ≡ after [] [] 0 POP wide keep (stack (now (s .entry)) p) ⌝ }
+    ensures { λ r. ⌜ stack (now (s .entry)) r ≡ mainWith [] [] 0 POP wide keep (stack (now (s .entry)) p) ⌝ }
 {
     lower(p, keep, size_of(wide))
 }
@@ -38,7 +38,7 @@ pub fn pop(s: &[u8], p: u8, wide: bool, keep: bool) -> u8
 // NIP a b: b.
 pub fn nip(s: &mut [u8], p: u8, wide: bool, keep: bool) -> u8
     requires { ⌜ length (now s) ≡ stackSize ⌝ }
-    ensures { λ r. ⌜ stack (now (s .exit)) r ≡ after [] [] 0 NIP wide keep (stack (now (s .entry)) p) ⌝ }
+    ensures { λ r. ⌜ stack (now (s .exit)) r ≡ mainWith [] [] 0 NIP wide keep (stack (now (s .entry)) p) ⌝ }
 {
     let n = size_of(wide);
     let x = operands(s, p, n, n, 0);
@@ -48,7 +48,7 @@ pub fn nip(s: &mut [u8], p: u8, wide: bool, keep: bool) -> u8
 // SWP a b: b a.
 pub fn swp(s: &mut [u8], p: u8, wide: bool, keep: bool) -> u8
     requires { ⌜ length (now s) ≡ stackSize ⌝ }
-    ensures { λ r. ⌜ stack (now (s .exit)) r ≡ after [] [] 0 SWP wide keep (stack (now (s .entry)) p) ⌝ }
+    ensures { λ r. ⌜ stack (now (s .exit)) r ≡ mainWith [] [] 0 SWP wide keep (stack (now (s .entry)) p) ⌝ }
 {
     let n = size_of(wide);
     let x = operands(s, p, n, n, 0);
@@ -59,7 +59,7 @@ pub fn swp(s: &mut [u8], p: u8, wide: bool, keep: bool) -> u8
 // ROT a b c: b c a.
 pub fn rot(s: &mut [u8], p: u8, wide: bool, keep: bool) -> u8
     requires { ⌜ length (now s) ≡ stackSize ⌝ }
-    ensures { λ r. ⌜ stack (now (s .exit)) r ≡ after [] [] 0 ROT wide keep (stack (now (s .entry)) p) ⌝ }
+    ensures { λ r. ⌜ stack (now (s .exit)) r ≡ mainWith [] [] 0 ROT wide keep (stack (now (s .entry)) p) ⌝ }
 {
     let n = size_of(wide);
     let x = operands(s, p, n, n, n);
@@ -71,7 +71,7 @@ pub fn rot(s: &mut [u8], p: u8, wide: bool, keep: bool) -> u8
 // DUP a: a a.
 pub fn dup(s: &mut [u8], p: u8, wide: bool, keep: bool) -> u8
     requires { ⌜ length (now s) ≡ stackSize ⌝ }
-    ensures { λ r. ⌜ stack (now (s .exit)) r ≡ after [] [] 0 DUP wide keep (stack (now (s .entry)) p) ⌝ }
+    ensures { λ r. ⌜ stack (now (s .exit)) r ≡ mainWith [] [] 0 DUP wide keep (stack (now (s .entry)) p) ⌝ }
 {
     let n = size_of(wide);
     let x = operands(s, p, n, 0, 0);
@@ -82,7 +82,7 @@ pub fn dup(s: &mut [u8], p: u8, wide: bool, keep: bool) -> u8
 // OVR a b: a b a.
 pub fn ovr(s: &mut [u8], p: u8, wide: bool, keep: bool) -> u8
     requires { ⌜ length (now s) ≡ stackSize ⌝ }
-    ensures { λ r. ⌜ stack (now (s .exit)) r ≡ after [] [] 0 OVR wide keep (stack (now (s .entry)) p) ⌝ }
+    ensures { λ r. ⌜ stack (now (s .exit)) r ≡ mainWith [] [] 0 OVR wide keep (stack (now (s .entry)) p) ⌝ }
 {
     let n = size_of(wide);
     let x = operands(s, p, n, n, 0);
@@ -94,7 +94,7 @@ pub fn ovr(s: &mut [u8], p: u8, wide: bool, keep: bool) -> u8
 // EQU, NEQ, GTH, LTH a b, as o = 0 to 3: one byte, 1 or 0.
 pub fn compare(s: &mut [u8], p: u8, wide: bool, keep: bool, o: u8) -> u8
     requires { ⌜ length (now s) ≡ stackSize ⌝ }
-    ensures { λ r. ⌜ stack (now (s .exit)) r ≡ after [] [] 0 (compare (comparisonAt o)) wide keep (stack (now (s .entry)) p) ⌝ }
+    ensures { λ r. ⌜ stack (now (s .exit)) r ≡ mainWith [] [] 0 (compare (comparisonAt o)) wide keep (stack (now (s .entry)) p) ⌝ }
 {
     let n = size_of(wide);
     let x = operands(s, p, n, n, 0);
@@ -104,7 +104,7 @@ pub fn compare(s: &mut [u8], p: u8, wide: bool, keep: bool, o: u8) -> u8
 // ADD, SUB, MUL, DIV, AND, ORA, EOR a b, as o = 0 to 6.
 pub fn compute(s: &mut [u8], p: u8, wide: bool, keep: bool, o: u8) -> u8
     requires { ⌜ length (now s) ≡ stackSize ⌝ }
-    ensures { λ r. ⌜ stack (now (s .exit)) r ≡ after [] [] 0 (compute (arithmeticAt o)) wide keep (stack (now (s .entry)) p) ⌝ }
+    ensures { λ r. ⌜ stack (now (s .exit)) r ≡ mainWith [] [] 0 (compute (arithmeticAt o)) wide keep (stack (now (s .entry)) p) ⌝ }
 {
     let n = size_of(wide);
     let x = operands(s, p, n, n, 0);
@@ -114,7 +114,7 @@ pub fn compute(s: &mut [u8], p: u8, wide: bool, keep: bool, o: u8) -> u8
 // SFT a shift8.
 pub fn sft(s: &mut [u8], p: u8, wide: bool, keep: bool) -> u8
     requires { ⌜ length (now s) ≡ stackSize ⌝ }
-    ensures { λ r. ⌜ stack (now (s .exit)) r ≡ after [] [] 0 SFT wide keep (stack (now (s .entry)) p) ⌝ }
+    ensures { λ r. ⌜ stack (now (s .exit)) r ≡ mainWith [] [] 0 SFT wide keep (stack (now (s .entry)) p) ⌝ }
 {
     let n = size_of(wide);
     let x = operands(s, p, n, 1, 0);

@@ -7,17 +7,17 @@ use Rattle.model.specs.declared.FrameReply.{FrameReply}
 use Rattle.cpu.specs.declared.End.{End}
 
 abbrev pub stepOf : End → StepReply
-stepOf (End.Broke m left) = StepReply.Broke m
+stepOf (End.Broke m unspent) = StepReply.Broke m
 stepOf (End.Spent m) = StepReply.WentOn m
 
 abbrev pub runOf : ℕ → End → RunReply
-runOf budget (End.Broke m left) = RunReply.Broke m (budget - left)
+runOf budget (End.Broke m unspent) = RunReply.Broke m (budget - unspent)
 runOf budget (End.Spent m) = RunReply.Spent m budget
 
 abbrev pub eventOf : ℕ → End → EventReply
-eventOf budget (End.Broke m left) = EventReply.Broke m (budget - left)
+eventOf budget (End.Broke m unspent) = EventReply.Broke m (budget - unspent)
 eventOf budget (End.Spent m) = EventReply.Spent m budget
 
 abbrev pub frameOf : ℕ → End → ℕ → FrameReply
-frameOf budget (End.Broke m left) verdict = FrameReply.Broke m (budget - left) verdict
+frameOf budget (End.Broke m unspent) verdict = FrameReply.Broke m (budget - unspent) verdict
 frameOf budget (End.Spent m) verdict = FrameReply.Spent m budget

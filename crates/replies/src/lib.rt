@@ -7,7 +7,7 @@ use model::RunReply;
 use model::StepReply;
 ghost use mathlib.Core.Path.{_≡_};
 ghost use Prim.Native.Nat.{_≤_};
-ghost use Rattle.cpu.specs.Ended.{left};
+ghost use Rattle.cpu.specs.Ended.{unspent};
 ghost use Rattle.replies.specs.FromRun.{stepOf, runOf, eventOf, frameOf};
 
 // The reply of a step, from the end of a run with budget 1.
@@ -21,7 +21,7 @@ pub fn step_of(end: End) -> StepReply
 }
 
 pub fn run_of(end: End, budget: u32) -> RunReply
-    requires { ⌜ left end ≤ budget ⌝ }
+    requires { ⌜ unspent end ≤ budget ⌝ }
     ensures { λ r. ⌜ r ≡ runOf budget end ⌝ }
 {
     match end {
@@ -31,7 +31,7 @@ pub fn run_of(end: End, budget: u32) -> RunReply
 }
 
 pub fn event_of(end: End, budget: u32) -> EventReply
-    requires { ⌜ left end ≤ budget ⌝ }
+    requires { ⌜ unspent end ≤ budget ⌝ }
     ensures { λ r. ⌜ r ≡ eventOf budget end ⌝ }
 {
     match end {
@@ -42,7 +42,7 @@ pub fn event_of(end: End, budget: u32) -> EventReply
 
 // "The verdict is port F2 if Broke and 0 if Spent."
 pub fn frame_of(end: End, budget: u32, verdict: u8) -> FrameReply
-    requires { ⌜ left end ≤ budget ⌝ }
+    requires { ⌜ unspent end ≤ budget ⌝ }
     ensures { λ r. ⌜ r ≡ frameOf budget end verdict ⌝ }
 {
     match end {

@@ -14,4 +14,4 @@ jumpTarget program at = offset (at + 3) (number (byteAt program (at + 1) ∷ byt
 
 -- the depth after an instruction; 256, which is none, where the stack does not hold what is taken
 abbrev pub depthOr : ℕ → ℕ → ℕ → ℕ
-depthOr depth taken after = cond (ltb depth taken) 256 after
+depthOr depth taken result = cond (ltb depth taken) 256 result

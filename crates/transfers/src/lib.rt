@@ -24,14 +24,14 @@ ghost use Rattle.model.specs.Instruction.{size};
 ghost use Rattle.model.specs.Instruction.Op.{JCI, JMP, JCN, STH, LDZ, STZ, LDR, STR, LDA, STA, DEI, DEO};
 ghost use Rattle.model.specs.Step.{effectOn, otherAfter, written};
 ghost use Rattle.model.specs.Step as model;
-ghost use Rattle.operations.specs.After.{after};
+ghost use Rattle.operations.specs.After.{mainWith};
 
 // ---- memory and devices
 
 // LDZ addr8: value.
 pub fn ldz(memory: &[u8], s: &mut [u8], p: u8, wide: bool, keep: bool) -> u8
     requires { ⌜ (length (now memory) ≡ memorySize) × (length (now s) ≡ stackSize) ⌝ }
-    ensures { λ r. ⌜ stack (now (s .exit)) r ≡ after (now (memory .entry)) [] 0 LDZ wide keep (stack (now (s .entry)) p) ⌝ }
+    ensures { λ r. ⌜ stack (now (s .exit)) r ≡ mainWith (now (memory .entry)) [] 0 LDZ wide keep (stack (now (s .entry)) p) ⌝ }
 {
     let x = operands(s, p, 1, 0, 0);
     push(
@@ -45,7 +45,7 @@ pub fn ldz(memory: &[u8], s: &mut [u8], p: u8, wide: bool, keep: bool) -> u8
 // LDR rel8: value.
 pub fn ldr(memory: &[u8], s: &mut [u8], next: u16, p: u8, wide: bool, keep: bool) -> u8
     requires { ⌜ (length (now memory) ≡ memorySize) × (length (now s) ≡ stackSize) ⌝ }
-    ensures { λ r. ⌜ stack (now (s .exit)) r ≡ after (now (memory .entry)) [] next LDR wide keep (stack (now (s .entry)) p) ⌝ }
+    ensures { λ r. ⌜ stack (now (s .exit)) r ≡ mainWith (now (memory .entry)) [] next LDR wide keep (stack (now (s .entry)) p) ⌝ }
 {
     let x = operands(s, p, 1, 0, 0);
     push(
@@ -59,7 +59,7 @@ pub fn ldr(memory: &[u8], s: &mut [u8], next: u16, p: u8, wide: bool, keep: bool
 // LDA addr16: value.
 pub fn lda(memory: &[u8], s: &mut [u8], p: u8, wide: bool, keep: bool) -> u8
     requires { ⌜ (length (now memory) ≡ memorySize) × (length (now s) ≡ stackSize) ⌝ }
-    ensures { λ r. ⌜ stack (now (s .exit)) r ≡ after (now (memory .entry)) [] 0 LDA wide keep (stack (now (s .entry)) p) ⌝ }
+    ensures { λ r. ⌜ stack (now (s .exit)) r ≡ mainWith (now (memory .entry)) [] 0 LDA wide keep (stack (now (s .entry)) p) ⌝ }
 {
     let x = operands(s, p, 2, 0, 0);
     push(s, lower(p, keep, 2), wide, load(memory, x[0], wide))
@@ -68,7 +68,7 @@ pub fn lda(memory: &[u8], s: &mut [u8], p: u8, wide: bool, keep: bool) -> u8
 // DEI port8: value.
 pub fn dei(devices: &[u8], s: &mut [u8], p: u8, wide: bool, keep: bool) -> u8
     requires { ⌜ (length (now devices) ≡ pageSize) × (length (now s) ≡ stackSize) ⌝ }
-    ensures { λ r. ⌜ stack (now (s .exit)) r ≡ after [] (now (devices .entry)) 0 DEI wide keep (stack (now (s .entry)) p) ⌝ }
+    ensures { λ r. ⌜ stack (now (s .exit)) r ≡ mainWith [] (now (devices .entry)) 0 DEI wide keep (stack (now (s .entry)) p) ⌝ }
 {
     let x = operands(s, p, 1, 0, 0);
     push(s, lower(p, keep, 1), wide, input(devices, x[0], wide))
