@@ -32,7 +32,7 @@ returns-4 : tie.Need-returns-4
 returns-4 c = visits.ret-fails _ _ _ _ (c .before .before .before .before .before .before .before .before .before .before .before .before .before .pre .1) _ (c .before .before .before .before .before .before .before .before .before .before .before .before .before .pre .2) _ (c .before .depth-by-table2 .ensures) (c .if4 .taken)
 
 follow-requires : tie.Need-follow-requires
-follow-requires c κs = (c .before .before .before .before .before .before .before .before .before .before .before .before .before .before .before .pre .1, c .before .before .before .before .before .before .before .before .before .before .before .before .before .before .before .pre .2, record { workLow = omega (arith, c .before .before .before .before .before .before .before .slice-known2 .given (4 * c .before .before .before .before .before .before .before .before .before .before .before .before .before .before .before .args .i + 1)); retLow = omega (arith, c .before .before .before .before .slice-known3 .given (4 * c .before .before .before .before .before .before .before .before .before .before .before .before .before .before .before .args .i + 2)); fine = sym (c .before .before .before .before .before .before .before .before .before .before .before .forbidden .ensures) ∙ c .before .before .before .before .before .before .before .before .before .before .if1 .left; next = ap (λ n. c .before .before .before .before .before .before .before .before .before .before .before .before .before .before .before .args .i + n) (c .before .before .before .before .before .before .before .before .before .entry .ensures); whole = c .before .before .before .before .before .before .before .before .if2 .left; works = c .before .before .before .before .before .before .depth-by-table .ensures; workTop = c .before .before .before .before .before .if3 .left; rets = c .before .before .before .depth-by-table2 .ensures; retTop = c .before .before .if4 .left })
+follow-requires c κs = (c .before .before .before .before .before .before .before .before .before .before .before .before .before .before .before .pre .1, c .before .before .before .before .before .before .before .before .before .before .before .before .before .before .before .pre .2, record { workLow = omega (arith, c .before .before .before .before .before .before .before .slice-known2 .given (4 * c .before .before .before .before .before .before .before .before .before .before .before .before .before .before .before .args .i + 1)); retLow = omega (arith, c .before .before .before .before .slice-known3 .given (4 * c .before .before .before .before .before .before .before .before .before .before .before .before .before .before .before .args .i + 2)); fine = sym (c .before .before .before .before .before .before .before .before .before .before .before .forbidden .ensures) ∙ c .before .before .before .before .before .before .before .before .before .before .if1 .left; nextIs = ap (λ n. c .before .before .before .before .before .before .before .before .before .before .before .before .before .before .before .args .i + n) (c .before .before .before .before .before .before .before .before .before .entry .ensures); whole = c .before .before .before .before .before .before .before .before .if2 .left; works = c .before .before .before .before .before .before .depth-by-table .ensures; workTop = c .before .before .before .before .before .if3 .left; rets = c .before .before .before .depth-by-table2 .ensures; retTop = c .before .before .if4 .left })
 
 pub visit-spec : {M : Type 1} → statement M
 visit-spec =

@@ -9,16 +9,11 @@ returns c = rw (c .before .reply .given .1)
 returns-2 : tie.Need-returns-2
 returns-2 c = rw (c .before .reply2 .given .1)
 
-returns-3 : tie.Need-returns-3
-returns-3 c = rw (c .before .reply3 .given .1)
-
 pub ended-spec : {M : Type 1} → statement M
 ended-spec =
     tie.close
     (tie.spec
     (λ c. search needs)
     (λ c. search needs)
-    (λ c. search needs)
     returns
-    returns-2
-    returns-3)
+    returns-2)

@@ -46,7 +46,7 @@ same-length-4 : tie.Need-same-length-4 Inv-loop μ-loop
 same-length-4 c = search needs
 
 returns : tie.Need-returns Inv-loop μ-loop
-returns c = rw (c .ended .ensures) (ends _ _ _ (omega arith) (c .before .before .before .before .before .before .before .before .before .before .before .before .before .before .before .before .loop .inv .0) _ _ (c .before .before .before .before .before .before .before .before .before .before .step .result) (c .before .match .keys2) (c .before .before .before .before .before .before .before .before .before .before .step .ensures) ∙ c .before .before .before .before .before .before .before .before .before .before .before .before .before .before .before .before .loop .inv .2, unspent-is (c .before .before .before .before .before .before .before .before .before .before .step .result) _ (omega arith))
+returns c = rw (c .ended .ensures) (ends _ _ _ (omega arith) (c .before .before .before .before .before .before .before .before .before .before .before .before .before .before .before .before .before .loop .inv .0) _ _ (c .before .before .before .before .before .before .before .before .before .before .before .step .result) (c .before .before .match .keys2) (c .before .before .before .before .before .before .before .before .before .before .before .step .ensures) ∙ c .before .before .before .before .before .before .before .before .before .before .before .before .before .before .before .before .before .loop .inv .2, unspent-is (c .before .before .before .before .before .before .before .before .before .before .before .step .result) _ (omega arith))
 
 loop-less : tie.Need-loop-less Inv-loop μ-loop
 loop-less c = omega arith
@@ -79,6 +79,7 @@ run-spec =
     step-requires
     sub-left
     enum-known-reply
+    (λ c. search needs)
     ended-requires
     same-length
     same-length-2
