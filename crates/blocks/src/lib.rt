@@ -138,10 +138,10 @@ pub fn work_off(
 ) -> Worked
     requires { ⌜ (n ≤ length (now block)) × (lineMost * (n / frameSize) ≤ length (now out)) ⌝ }
     ensures { λ r. ⌜ record {
-          machine = state (now (memory .exit)) (now (devices .exit)) (now (work .exit)) (now (ret .exit)) (r .machine);
-          lines = take (r .lines) (now (out .exit));
-          waiting = take (r .waiting) (now (block .exit));
-        }
+      machine = state (now (memory .exit)) (now (devices .exit)) (now (work .exit)) (now (ret .exit)) (r .machine);
+      lines = take (r .lines) (now (out .exit));
+      waiting = take (r .waiting) (now (block .exit));
+    }
         ≡ judged (take n (now (block .entry))) (state (now (memory .entry)) (now (devices .entry)) (now (work .entry)) (now (ret .entry)) m) ⌝ }
     ensures { λ r. ⌜ (r .lines ≤ length (now (out .exit))) × (r .waiting < frameSize) × (r .waiting ≤ length (now (block .exit))) ⌝ }
 {

@@ -1,3 +1,1 @@
-pub mod Putting
-pub mod Blocks
-pub mod Moving
+pub mod Coming

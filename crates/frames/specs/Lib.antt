@@ -1,3 +1,1 @@
-pub mod Lines
-pub mod Frames
-pub mod Turns
+pub mod Reading

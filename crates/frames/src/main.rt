@@ -1,25 +1,14 @@
 // frames PROGRAM RECORDS: loads the program, makes a frame call for each whole record, and writes a line for each.
-mod block;
 mod stream;
-mod text;
 
+use blocks::load;
 use input::Input;
+use input::asks_for_help;
 use input::read_to_end;
 use libc::STDERR_FILENO;
 use libc::STDOUT_FILENO;
-use model::LoadReply;
 use model::Machine;
 use stream::stream_records;
-use text::put_refused;
-
-// "A program refused at load gives that one line alone."
-fn refuse(number: u8) {
-    let mut line = [0u8; 12];
-    let n = put_refused(&mut line, 0, number);
-    if !io::write_all(STDOUT_FILENO, &line[..n]) {
-        os::fail(b"standard output");
-    }
-}
 
 fn run(program: &[u8], records: i32, records_path: &[u8]) {
     // "Fresh stacks are 256 bytes of zero"
@@ -32,25 +21,34 @@ fn run(program: &[u8], records: i32, records_path: &[u8]) {
         wp: 0,
         rp: 0,
     };
-    match machine::load(
+    // "A program refused at load gives that one line alone."
+    let mut line = [0u8; 12];
+    let loaded = load(
         fresh,
         &mut memory,
         &mut devices,
         &mut work,
         &mut ret,
         program,
-    ) {
-        LoadReply::Refused(number, _) => refuse(number),
-        LoadReply::Loaded(m) => stream_records(
-            m,
-            &mut memory,
-            &mut devices,
-            &mut work,
-            &mut ret,
-            records,
-            records_path,
-        ),
+        &mut line,
+    );
+    let n = loaded.lines;
+    if n != 0 {
+        if !io::write_all(STDOUT_FILENO, &line[..n]) {
+            os::fail(b"standard output");
+        }
+        return;
     }
+    let m = loaded.machine;
+    stream_records(
+        m,
+        &mut memory,
+        &mut devices,
+        &mut work,
+        &mut ret,
+        records,
+        records_path,
+    );
 }
 
 // Both files are open; the paths are for messages.
@@ -64,12 +62,20 @@ fn read_and_run(program: i32, program_path: &[u8], records: i32, records_path: &
     run(&bytes[..n], records, records_path);
 }
 
+fn usage(fd: i32) {
+    io::write_all(
+        fd,
+        b"usage: frames PROGRAM RECORDS\nLoads the file PROGRAM and writes a line for each whole 64-byte record of the file RECORDS:\npass, drop, spent (10,000 steps used up), or refused and the number of the refusal.\nA program that is refused at load gives one line, refused and the number.\nRefusals: 5 the program is empty or above 65,280 bytes; 8 a record's data length is above 62,\nor a byte past its data is not 0.\nStandard error is empty if all went well; bytes at the end of RECORDS that are no whole record\nare counted there.\n",
+    );
+}
+
 fn main() {
+    if asks_for_help() {
+        usage(STDOUT_FILENO);
+        return;
+    }
     if os::arg_count() != 3 {
-        io::write_all(
-            STDERR_FILENO,
-            b"usage: frames PROGRAM RECORDS\nLoads the file PROGRAM and writes a line for each whole 64-byte record of the file RECORDS:\npass, drop, spent (10,000 steps used up), or refused and the number of the refusal.\n",
-        );
+        usage(STDERR_FILENO);
         return;
     }
     let mut program_path = io::buffer();

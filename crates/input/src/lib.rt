@@ -1,6 +1,7 @@
-// Reading an input that may come in pieces.
+// Reading an input that may come in pieces, and the argument that asks for help.
+ghost use mathlib.Core.Path.{_≡_};
 ghost use Prim.Native.Nat.{_≤_};
-ghost use lib.ListN.{length};
+ghost use lib.ListN.{length, take};
 ghost use Rattle.input.specs.Filled.{FilledTo};
 
 // Up to where the buffer is filled now, or that a read failed; errno has the reason.
@@ -9,10 +10,10 @@ pub enum Input {
     Failed,
 }
 
-// One read into the buffer from `at` on. The answer is `at` again where the input has ended.
+// One read into the buffer from `at` on; what stands before `at` stays. The answer is `at` again where the input has ended.
 pub fn read_more(fd: i32, buf: &mut [u8], at: usize) -> Input
     requires { ⌜ at ≤ length (now buf) ⌝ }
-    ensures { λ r. ⌜ FilledTo at r (now (buf .exit)) ⌝ }
+    ensures { λ r. ⌜ FilledTo at r (now (buf .exit)) × (take at (now (buf .exit)) ≡ take at (now (buf .entry))) ⌝ }
 {
     let got = libc::read(fd, &mut buf[at..]);
     if got < 0 {
@@ -36,4 +37,22 @@ pub fn read_to_end(fd: i32, buf: &mut [u8]) -> Input
         n = filled;
     }
     Input::Bytes(n)
+}
+
+fn is_help(word: &[u8]) -> bool {
+    if word.len() != 6 {
+        return false;
+    }
+    let dashes = word[0] == b'-' && word[1] == b'-';
+    dashes && word[2] == b'h' && word[3] == b'e' && word[4] == b'l' && word[5] == b'p'
+}
+
+// The program has one argument, `--help`.
+pub fn asks_for_help() -> bool {
+    if os::arg_count() != 2 {
+        return false;
+    }
+    let mut word = io::buffer();
+    let n = os::arg(1, &mut word);
+    is_help(&word[..n])
 }

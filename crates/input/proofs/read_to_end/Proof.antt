@@ -18,10 +18,10 @@ returns-2 : tie.Need-returns-2 Inv-loop μ-loop
 returns-2 c = filled _ _ _ (omega arith) (omega arith)
 
 loop-less : tie.Need-loop-less Inv-loop μ-loop
-loop-less c = let w = rw (c .before .before .filled .given .1) at (c .before .before .before .before .before .before .read-more .ensures) in omega (arith, w .0, w .1, c .if1 .left)
+loop-less c = let w = rw (c .before .before .filled .given .1) at (c .before .before .before .before .before .before .read-more .ensures .0) in omega (arith, w .0, w .1, c .if1 .left)
 
 loop-again : tie.Need-loop-again Inv-loop μ-loop
-loop-again c = let w = rw (c .before .before .filled .given .1) at (c .before .before .before .before .before .before .read-more .ensures) in (omega (arith, w .0, w .1), omega arith)
+loop-again c = let w = rw (c .before .before .filled .given .1) at (c .before .before .before .before .before .before .read-more .ensures .0) in (omega (arith, w .0, w .1), omega arith)
 
 returns-3 : tie.Need-returns-3 Inv-loop μ-loop
 returns-3 c = filled _ _ _ (omega arith) (omega arith)

@@ -1,20 +1,28 @@
 -- `frames::stream::read_some` meets its contract. Assumes nothing.
 use native.Mathlib.Omega.{arith}
+use Rattle.io.proofs.Counting.{counts}
+use Rattle.frames.proofs.Coming as coming
 use borrow.Author.Needs.{needs}
 use Rattle.frames.proofs.stream.read_some.Statement.{statement}
 use Rattle.frames.proofs.stream.read_some.Tie as tie
 
-slice-reshare-prefix-frames : tie.Need-slice-reshare-prefix-frames
-slice-reshare-prefix-frames c = let w = rw (c .before .before .before .before .before .before .n .given .1) at (c .before .before .before .before .before .before .before .before .before .before .read-more .ensures) in omega (arith, w .1)
+returns : tie.Need-returns
+returns c = (coming.nothing-came (c .before .before .before .before .before .before .before .before .before .before .before .before .before .before .args .waited) (c .before .before .before .before .before .before .before .before .before .before .before .before .before .before .args .block .now) _ _ (omega arith) (omega arith) (c .before .before .before .before .before .read-more .ensures .1), omega arith)
 
-slice-aggregate-frames : tie.Need-slice-aggregate-frames
-slice-aggregate-frames c = let w = rw (c .before .before .before .before .before .before .before .n .given .1) at (c .before .before .before .before .before .before .before .before .before .before .before .read-more .ensures) in w .1 .1
+returns-2 : tie.Need-returns-2
+returns-2 c = (coming.nothing-came (c .before .before .before .before .before .before .before .before .before .before .before .before .before .before .before .before .args .waited) (c .before .before .before .before .before .before .before .before .before .before .before .before .before .before .before .before .args .block .now) _ _ (omega arith) (omega arith) (c .before .before .before .before .before .before .before .read-more .ensures .1), omega arith)
 
-frames-requires : tie.Need-frames-requires
-frames-requires c κs = let w = rw (c .before .before .before .before .before .before .before .before .n .given .1) at (c .before .before .before .before .before .before .before .before .before .before .before .before .read-more .ensures) in omega (arith, w .1)
+work-off-requires : tie.Need-work-off-requires
+work-off-requires c κs = let w = rw (c .before .before .before .before .before .before .before .before .n .given .1) at (c .before .before .before .before .before .before .before .before .before .before .before .before .read-more .ensures .0) in (omega (arith, w .1), omega (arith, w .1))
 
-move-to-front-requires : tie.Need-move-to-front-requires
-move-to-front-requires c κs = let w = rw (c .before .before .before .before .before .before .before .before .before .before .before .before .before .before .before .before .before .before .before .before .before .before .before .n .given .1) at (c .before .before .before .before .before .before .before .before .before .before .before .before .before .before .before .before .before .before .before .before .before .before .before .before .before .before .before .read-more .ensures) in (omega arith, omega (arith, w .1))
+slice-aggregate-write-all : tie.Need-slice-aggregate-write-all
+slice-aggregate-write-all c = counts (c .before .before .before .before .before .before .before .before .before .before .before .before .before .before .work-off .result .lines) _ (c .before .before .before .before .before .before .before .before .before .before .before .before .before .before .work-off .ensures .1 .0) .1
+
+returns-3 : tie.Need-returns-3
+returns-3 c = let w = rw (c .before .before .before .before .before .before .before .before .before .before .before .before .before .before .before .before .before .before .before .before .before .before .before .before .before .before .before .n .given .1) at (c .before .before .before .before .before .before .before .before .before .before .before .before .before .before .before .before .before .before .before .before .before .before .before .before .before .before .before .before .before .before .before .read-more .ensures .0) in (coming.came _ _ (c .before .before .before .before .before .before .before .before .before .before .before .before .before .before .before .before .before .before .before .before .before .before .before .before .before .before .before .before .before .before .before .before .before .before .before .before .before .before .before .before .args .block .now) _ _ _ (w .0) (c .before .before .before .before .before .before .before .before .before .before .before .before .before .before .before .before .before .before .before .before .before .before .before .before .before .before .before .before .before .before .before .read-more .ensures .1) (c .before .before .before .before .before .before .before .before .before .before .before .before .before .before .before .before .before .before .work-off .ensures .0), c .before .before .before .before .before .before .before .before .before .before .before .before .before .before .before .before .before .before .work-off .ensures .1 .1)
+
+returns-4 : tie.Need-returns-4
+returns-4 c = let w = rw (c .before .before .before .before .before .before .before .before .before .before .before .before .before .before .before .before .before .before .before .before .before .before .before .before .before .n .given .1) at (c .before .before .before .before .before .before .before .before .before .before .before .before .before .before .before .before .before .before .before .before .before .before .before .before .before .before .before .before .before .read-more .ensures .0) in (coming.came _ _ (c .before .before .before .before .before .before .before .before .before .before .before .before .before .before .before .before .before .before .before .before .before .before .before .before .before .before .before .before .before .before .before .before .before .before .before .before .before .before .args .block .now) _ _ _ (w .0) (c .before .before .before .before .before .before .before .before .before .before .before .before .before .before .before .before .before .before .before .before .before .before .before .before .before .before .before .before .before .read-more .ensures .1) (c .before .before .before .before .before .before .before .before .before .before .before .before .before .before .before .before .work-off .ensures .0), c .before .before .before .before .before .before .before .before .before .before .before .before .before .before .before .before .work-off .ensures .1 .1)
 
 pub read-some-spec : {M : Type 1} → statement M
 read-some-spec =
@@ -25,14 +33,13 @@ read-some-spec =
     (λ c. search needs)
     (λ c κs. search needs)
     (λ c. search needs)
+    returns
+    (λ c κs. search needs)
     (λ c. search needs)
+    returns-2
+    work-off-requires
     (λ c. search needs)
-    (λ c. search needs)
-    slice-reshare-prefix-frames
-    slice-aggregate-frames
-    frames-requires
-    (λ c. search needs)
-    (λ c. search needs)
+    slice-aggregate-write-all
     (λ c κs. search needs)
     (λ c. search needs)
     (λ c κs. search needs)
@@ -42,13 +49,11 @@ read-some-spec =
     (λ c. search needs)
     (λ c. search needs)
     (λ c. search needs)
-    (λ c. search needs)
-    (λ c. search needs)
-    move-to-front-requires
+    returns-3
     (λ c. search needs)
     (λ c. search needs)
     (λ c. search needs)
     (λ c. search needs)
     (λ c. search needs)
     (λ c. search needs)
-    (λ c. search needs))
+    returns-4)

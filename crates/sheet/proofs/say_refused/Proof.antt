@@ -1,15 +1,15 @@
--- `frames::refuse` meets its contract. Assumes nothing.
+-- `sheet::say_refused` meets its contract. Assumes nothing.
 use native.Mathlib.Omega.{arith}
-use borrow.Author.Needs.{needs}
 use Rattle.io.proofs.Counting.{counts}
-use Rattle.frames.proofs.refuse.Statement.{statement}
-use Rattle.frames.proofs.refuse.Tie as tie
+use borrow.Author.Needs.{needs}
+use Rattle.sheet.proofs.say_refused.Statement.{statement}
+use Rattle.sheet.proofs.say_refused.Tie as tie
 
 slice-aggregate-write-all : tie.Need-slice-aggregate-write-all
 slice-aggregate-write-all c = counts (c .before .before .put-refused .result) (c .before .before .put-refused .last .0) (omega arith) .1
 
-pub refuse-spec : {M : Type 1} → statement M
-refuse-spec =
+pub say-refused-spec : {M : Type 1} → statement M
+say-refused-spec =
     tie.close
     (tie.spec
     (λ c. search needs)
@@ -17,7 +17,4 @@ refuse-spec =
     (λ c. search needs)
     slice-aggregate-write-all
     (λ c κs. search needs)
-    (λ c. search needs)
-    (λ c κs. search needs)
-    (λ c. search needs)
     (λ c. search needs))
