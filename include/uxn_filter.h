@@ -15,12 +15,19 @@
  *
  * Every call ends: a run takes at most `budget` instructions. What each call replies and leaves in every lent byte is proved
  * for every input (crates/capi/src/lib.rt has the contracts, crates/model/specs the definitions that they cite).
+ *
+ * The library has six calls. At the end of this file stands a struct, uxn_host, that holds record and buffers of a machine, with
+ * functions that make the calls on it. A host that does not use it pays nothing for it.
  */
 #ifndef UXN_FILTER_H
 #define UXN_FILTER_H
 
 #include <stddef.h>
 #include <stdint.h>
+
+/* The version of this interface. Every change of a call, a struct or a constant of this file raises it. Version 1 had no such
+   name: there the device of uxn_event was a uint8_t, so that C cut 259 down to 3, and there was no uxn_host. */
+#define UXN_FILTER_VERSION 2
 
 #ifdef __cplusplus
 extern "C" {
@@ -76,9 +83,10 @@ uxn_reply uxn_step(uxn_machine machine, uint8_t *memory, size_t memory_length, u
 uxn_reply uxn_run(uxn_machine machine, uint8_t *memory, size_t memory_length, uint8_t *device_page, size_t device_page_length,
                   uint8_t *working, size_t working_length, uint8_t *ret, size_t ret_length, uint32_t budget);
 
-/* A run from the vector of a device, 0 to 15; stacks and pointers stay as they are. Refusals: 1 to 4, 6. */
+/* A run from the vector of a device, 0 to 15; stacks and pointers stay as they are. Any other number is refused, 259 and -1 too;
+   but C cuts one of more than 32 bits before the call sees it. Refusals: 1 to 4, 6. */
 uxn_reply uxn_event(uxn_machine machine, uint8_t *memory, size_t memory_length, uint8_t *device_page, size_t device_page_length,
-                    uint8_t *working, size_t working_length, uint8_t *ret, size_t ret_length, uint8_t device, uint32_t budget);
+                    uint8_t *working, size_t working_length, uint8_t *ret, size_t ret_length, uint32_t device, uint32_t budget);
 
 /* A frame record of 64 bytes: length of the data (0 to 62), node number, the data, zeros to the end. Port 0xF2 becomes 0, the
    record is written to 0x0080 .. 0x00BF, both pointers become 0, and the program runs from 0x0100. Refusals: 1 to 4, 7, 8. */
@@ -91,6 +99,67 @@ uxn_reply uxn_frame(uxn_machine machine, uint8_t *memory, size_t memory_length, 
    if the program is admitted; the sheet is written then. Else it answers the number: 5, 9 and 10 leave the sheet as found, 11
    leaves it all zero. The program stays as it is; the two must not overlap, and no pointer may be null. */
 uint8_t uxn_admit(const uint8_t *program, size_t program_length, uint8_t *sheet, size_t sheet_length);
+
+/*
+ * The usual host, in C99 and later and in C++. A uxn_host is a machine: its record, and its four buffers of the right lengths.
+ * Each function below makes the call of its name with these, keeps the record that comes back, and returns the reply. So no
+ * length and no record is forgotten, and 1 to 4 are never answered.
+ *
+ * These functions are C, compiled with the host, and not proved: they only pass on. The calls that they make are proved.
+ *
+ * Before its first load the struct may hold anything. It has 66,308 bytes, so mind a small stack. Its fields may be read and
+ * written between calls, and a copy of it is a copy of the machine. The program and the record that are lent must not lie in it,
+ * and no pointer may be null.
+ */
+#if defined(__cplusplus) || (defined(__STDC_VERSION__) && __STDC_VERSION__ >= 199901L)
+
+typedef struct {
+    uxn_machine machine; /* as the last call replied it */
+    uint8_t memory[65536];
+    uint8_t device_page[256];
+    uint8_t working[256];
+    uint8_t ret[256];
+} uxn_host;
+
+/* What every call on a machine is given first. */
+#define UXN_HOST_GIVES(host)                                                                                             \
+    (host)->machine, (host)->memory, sizeof (host)->memory, (host)->device_page, sizeof (host)->device_page,             \
+        (host)->working, sizeof (host)->working, (host)->ret, sizeof (host)->ret
+
+static inline uxn_reply uxn_host_keep(uxn_host *host, uxn_reply reply)
+{
+    host->machine = reply.machine;
+    return reply;
+}
+
+static inline uxn_reply uxn_host_load(uxn_host *host, const uint8_t *program, size_t program_length)
+{
+    return uxn_host_keep(host, uxn_load(UXN_HOST_GIVES(host), program, program_length));
+}
+
+static inline uxn_reply uxn_host_step(uxn_host *host)
+{
+    return uxn_host_keep(host, uxn_step(UXN_HOST_GIVES(host)));
+}
+
+static inline uxn_reply uxn_host_run(uxn_host *host, uint32_t budget)
+{
+    return uxn_host_keep(host, uxn_run(UXN_HOST_GIVES(host), budget));
+}
+
+static inline uxn_reply uxn_host_event(uxn_host *host, uint32_t device, uint32_t budget)
+{
+    return uxn_host_keep(host, uxn_event(UXN_HOST_GIVES(host), device, budget));
+}
+
+static inline uxn_reply uxn_host_frame(uxn_host *host, const uint8_t *record, size_t record_length, uint32_t budget)
+{
+    return uxn_host_keep(host, uxn_frame(UXN_HOST_GIVES(host), record, record_length, budget));
+}
+
+#undef UXN_HOST_GIVES
+
+#endif
 
 #ifdef __cplusplus
 }

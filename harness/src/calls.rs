@@ -11,6 +11,23 @@ pub const ADMIT_LIMIT: usize = 4_096;
 /// Bytes of a sheet for each program byte.
 pub const SHEET_RECORD: usize = 4;
 
+/// Numbers that are no device, 16 and up: ends, and some that would be 3, or have the port of
+/// device 3, if only their low 8, 16, 24 or 31 bits were looked at or 16 times the number wrapped.
+pub const NO_DEVICES: [u32; 12] = [
+    16,
+    255,
+    256,
+    256 + 3,
+    (1 << 12) + 3,
+    65_535,
+    65_536 + 3,
+    (1 << 24) + 3,
+    (1 << 28) + 3,
+    1 << 31,
+    (1 << 31) + 3,
+    u32::MAX,
+];
+
 pub const ADMITTED: u8 = 0;
 
 pub const REFUSED: u8 = 0;

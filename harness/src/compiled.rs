@@ -15,14 +15,36 @@ pub fn repository(path: &str) -> PathBuf {
 
 /// Builds a C program with the header and the library; a warning is an error.
 pub fn build_c(source: &Path, program: &Path) {
-    let mut command = Command::new("cc");
+    let mut command = compile("cc", "c11", &repository("include"), source, program);
+    assert_eq!(printed(&mut command), "");
+}
+
+/// The command that builds a program in this standard of C or C++, with the header of a folder and
+/// the library; a warning is an error.
+pub fn compile(
+    compiler: &str,
+    standard: &str,
+    include: &Path,
+    source: &Path,
+    program: &Path,
+) -> Command {
+    let language = if standard.starts_with("c++") {
+        "c++"
+    } else {
+        "c"
+    };
+    let mut command = Command::new(compiler);
     command
-        .args(["-std=c11", "-Wall", "-Wextra", "-Werror", "-pedantic", "-I"])
-        .arg(repository("include"))
-        .args([source, library()])
+        .arg(format!("-std={standard}"))
+        .args(["-Wall", "-Wextra", "-Werror", "-pedantic", "-I"])
+        .arg(include)
+        .args(["-x", language])
+        .arg(source)
+        .args(["-x", "none"])
+        .arg(library())
         .arg("-o")
         .arg(program);
-    assert_eq!(printed(&mut command), "");
+    command
 }
 
 /// What a command writes on standard output; it ends well and has nothing to say on standard error.

@@ -179,7 +179,7 @@ impl Pair {
         self.compare(|| format!("run of budget {budget}"), mine, other)
     }
 
-    pub fn event(&mut self, device: u8, budget: u32) -> Reply {
+    pub fn event(&mut self, device: u32, budget: u32) -> Reply {
         let before = self.machine;
         let mine = library::event(before, lend(&mut self.library), device, budget);
         let other = second::event(record_of(before), &mut self.second, device, budget);

@@ -509,14 +509,15 @@ pub fn run(record: Record, parts: &mut Parts, budget: u32) -> Reply {
     run_parts(record, parts, budget)
 }
 
-pub fn event(record: Record, parts: &mut Parts, device: u8, budget: u32) -> Reply {
+pub fn event(record: Record, parts: &mut Parts, device: u32, budget: u32) -> Reply {
     if let Some(number) = wrong_buffer(parts) {
         return refused(record, number);
     }
     if device > 15 {
         return refused(record, 6);
     }
-    let vector = read_port(&parts.device_page, Size::Sixteen, 16 * device);
+    let port = 16 * device as u8;
+    let vector = read_port(&parts.device_page, Size::Sixteen, port);
     if vector == 0 {
         return Reply {
             record,

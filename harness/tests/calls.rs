@@ -2,7 +2,8 @@
 
 use uxn_filter_harness::assembler::assemble;
 use uxn_filter_harness::calls::{
-    BROKE, IGNORED, LOADED, MEMORY, PROGRAM_LIMIT, PROGRAM_START, RECORD, REFUSED, SPENT,
+    BROKE, IGNORED, LOADED, MEMORY, NO_DEVICES, PROGRAM_LIMIT, PROGRAM_START, RECORD, REFUSED,
+    SPENT,
 };
 use uxn_filter_harness::pair::{Pair, Part};
 use uxn_filter_harness::programs::{either, grammar_made, random_bytes};
@@ -49,14 +50,13 @@ fn loads_over_dirty_buffers() {
 fn events_of_every_device() {
     let mut pair = Pair::new(seed());
     let mut random = Random::new(seed());
-    for device in 0..=255u8 {
+    for device in (0..=255).chain(NO_DEVICES) {
         for vector in [0x0000, 0x0001, 0x0100, 0xff00, 0xffff, random.short()] {
             for budget in BUDGETS {
                 pair.make_dirty(&mut random);
-                if device < 16 {
-                    let port = 16 * usize::from(device);
-                    pair.put(Part::DevicePage, port, &u16::to_be_bytes(vector));
-                }
+                // Of a number that is no device, the vector that its low bits have.
+                let port = 16 * (device as usize % 16);
+                pair.put(Part::DevicePage, port, &u16::to_be_bytes(vector));
                 let before = pair.snapshot();
                 let reply = pair.event(device, budget);
                 if device > 15 {
@@ -83,14 +83,14 @@ fn events_in_a_row() {
     for _ in 0..20 {
         pair.load(&grammar_made(&mut random, false));
         for _ in 0..50 {
-            let device = random.below(17) as u8;
+            let device = random.below(17);
             if device < 16 && random.one_in(2) {
                 let vector = PROGRAM_START + random.below(300) as u16;
-                let port = 16 * usize::from(device);
+                let port = 16 * device;
                 pair.put(Part::DevicePage, port, &vector.to_be_bytes());
             }
             let budget = random.below(500) as u32;
-            pair.event(device, budget);
+            pair.event(device as u32, budget);
         }
     }
     pair.say_total("events in a row");

@@ -39,10 +39,12 @@ int main(void)
     static const uint8_t program[] = {0x80, 0x01, 0x80, 0xf2, 0x17, 0x00};
     /* POP of the empty stack */
     static const uint8_t refused[] = {0x02, 0x00};
+    static const uint32_t wrong[] = {16, 255, 256, 259, 65536 + 3, UINT32_MAX};
     uint8_t sheet[4 * sizeof program];
     uint8_t record[64];
     uxn_machine machine = {0x1234, 5, 6};
     uxn_reply reply;
+    size_t n;
 
     memset(record, 0, sizeof record);
     reply = uxn_load(machine, BUFFERS, program, sizeof program);
@@ -60,6 +62,13 @@ int main(void)
     say("event", reply);
     reply = uxn_frame(reply.machine, BUFFERS, record, sizeof record - 1, 100);
     say("frame", reply);
+    /* the vector of device 3 is not 0 either: a number that C cuts to its low byte would be that device */
+    device_page[0x30] = 0x01;
+    for (n = 0; n < sizeof wrong / sizeof *wrong; n++) {
+        reply = uxn_event(reply.machine, BUFFERS, wrong[n], 100);
+        printf("device %lu: answer %u, number %u\n", (unsigned long)wrong[n], reply.answer, reply.number);
+    }
+    printf("device -1: %d\n", uxn_event(reply.machine, BUFFERS, -1, 100).number == UXN_DEVICE_NUMBER);
 
     say_sheet(program, sizeof program, sheet, sizeof sheet);
     say_sheet(program, sizeof program, sheet, 8);

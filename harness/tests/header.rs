@@ -1,9 +1,24 @@
-//! `include/uxn_filter.h` is C, agrees with the library, and gives what document 01 says.
+//! `include/uxn_filter.h` is C and C++, agrees with the library, and gives what document 01 says;
+//! its `uxn_host` passes on what it is given, and its version is raised when it changes.
 
-use std::path::Path;
+use std::fs;
+use std::path::{Path, PathBuf};
 use std::process::Command;
 
-use uxn_filter_harness::compiled::{build_c, printed, repository};
+use uxn_filter_harness::compiled::{build_c, compile, printed, repository};
+use uxn_filter_harness::linked;
+use uxn_filter_harness::pair::say;
+
+fn header() -> String {
+    fs::read_to_string(repository("include/uxn_filter.h")).expect("the header")
+}
+
+/// A folder of its own for a test.
+fn folder(test: &str) -> PathBuf {
+    linked::folder(env!("CARGO_TARGET_TMPDIR"), test)
+}
+
+// The calls
 
 const SAYS: &str = "\
 load: answer 1, number 0, steps 0, verdict 0, pc 0100, wp 0, rp 0
@@ -13,6 +28,13 @@ frame: answer 3, number 0, steps 4, verdict 1, pc 0106, wp 0, rp 0
 event: answer 5, number 0, steps 0, verdict 0, pc 0106, wp 0, rp 0
 event: answer 3, number 0, steps 4, verdict 0, pc 0106, wp 0, rp 0
 frame: answer 0, number 7, steps 0, verdict 0, pc 0106, wp 0, rp 0
+device 16: answer 0, number 6
+device 255: answer 0, number 6
+device 256: answer 0, number 6
+device 259: answer 0, number 6
+device 65539: answer 0, number 6
+device 4294967295: answer 0, number 6
+device -1: 1
 admit: 0, sheet, 01 00 00 80, 00 00 00 01, 01 01 00 80, 00 00 00 f2, 01 02 00 17, 01 00 00 00
 admit: 10, sheet, 01 00 00 80, 00 00 00 01
 admit: 11, sheet, 00 00 00 00, 00 00 00 00
@@ -24,7 +46,193 @@ admit: 1
 
 #[test]
 fn a_c_program_makes_every_call() {
-    let program = Path::new(env!("CARGO_TARGET_TMPDIR")).join("header");
+    let program = folder("header").join("header");
     build_c(&repository("harness/tests/header.c"), &program);
     assert_eq!(printed(&mut Command::new(&program)), SAYS);
+}
+
+// The struct for the usual host
+
+/// Compilers and standards; the first is a must, the others are passed over where they are missing.
+const BUILDS: [(&str, &[&str]); 4] = [
+    ("gcc", &["c99", "c11", "c17"]),
+    ("clang", &["c99", "c17"]),
+    ("g++", &["c++11", "c++14", "c++17", "c++20"]),
+    ("clang++", &["c++11", "c++17"]),
+];
+
+/// Every answer of every call on a machine that has its buffers.
+const MET: [&str; 14] = [
+    "load: answer 0, number 5",
+    "load: answer 1, number 0",
+    "step: answer 2, number 0",
+    "step: answer 3, number 0",
+    "run: answer 3, number 0",
+    "run: answer 4, number 0",
+    "event: answer 0, number 6",
+    "event: answer 3, number 0",
+    "event: answer 4, number 0",
+    "event: answer 5, number 0",
+    "frame: answer 0, number 7",
+    "frame: answer 0, number 8",
+    "frame: answer 3, number 0",
+    "frame: answer 4, number 0",
+];
+
+fn is_there(compiler: &str) -> bool {
+    Command::new(compiler).arg("--version").output().is_ok()
+}
+
+/// `host.c` with the header of a folder.
+fn host_program(compiler: &str, standard: &str, include: &Path, program: &Path) -> Command {
+    let source = repository("harness/tests/host.c");
+    compile(compiler, standard, include, &source, program)
+}
+
+/// The calls through the struct give the replies and bytes of the calls themselves, in C and C++.
+#[test]
+fn the_struct_passes_on() {
+    let folder = folder("host");
+    for (place, (compiler, standards)) in BUILDS.into_iter().enumerate() {
+        if place > 0 && !is_there(compiler) {
+            say(&format!(
+                "passed over: the header by {compiler}, for there is none"
+            ));
+            continue;
+        }
+        for standard in standards {
+            let program = folder.join(format!("{compiler}_{standard}"));
+            let include = repository("include");
+            let mut built = host_program(compiler, standard, &include, &program);
+            assert_eq!(printed(built.arg("-O2")), "");
+            let said = printed(&mut Command::new(&program));
+            let met = said.lines().map(|line| {
+                let (what, count) = line.rsplit_once(": ").expect("a count");
+                let count: u32 = count.parse().expect("a number");
+                assert!(count >= 10, "{compiler} {standard}: {line}");
+                what
+            });
+            assert!(met.eq(MET), "{compiler} {standard}:\n{said}");
+        }
+    }
+}
+
+/// What may be wrong in the header's struct and functions, as replacements; each has to be seen.
+const WRONG: [(&str, &str); 9] = [
+    ("host->machine = reply.machine;", "(void)host;"),
+    ("uint8_t ret[256]", "uint8_t ret[255]"),
+    ("sizeof (host)->device_page", "sizeof (host)->memory"),
+    (
+        "(host)->working, sizeof (host)->working, (host)->ret, sizeof (host)->ret",
+        "(host)->ret, sizeof (host)->ret, (host)->working, sizeof (host)->working",
+    ),
+    (
+        "program, program_length));",
+        "program, program_length / 2));",
+    ),
+    ("GIVES(host), budget)", "GIVES(host), budget + 1)"),
+    (
+        "GIVES(host), device, budget)",
+        "GIVES(host), budget, device)",
+    ),
+    (
+        "GIVES(host), device, budget)",
+        "GIVES(host), device % 256, budget)",
+    ),
+    (
+        "record, record_length, budget)",
+        "record, 64 + 0 * record_length, budget)",
+    ),
+];
+
+#[test]
+fn what_the_struct_does_wrong_is_seen() {
+    let header = header();
+    for (place, (right, wrong)) in WRONG.into_iter().enumerate() {
+        assert_eq!(header.matches(right).count(), 1, "{right}");
+        let folder = folder(&format!("wrong_host_{place}"));
+        fs::write(folder.join("uxn_filter.h"), header.replace(right, wrong)).expect("a header");
+        let program = folder.join("host");
+        let mut built = host_program("gcc", "c99", &folder, &program);
+        assert_eq!(printed(&mut built), "", "{wrong}");
+        let ended = Command::new(&program).output().expect("the program runs");
+        let said = String::from_utf8_lossy(&ended.stdout);
+        assert!(
+            ended.status.code() == Some(1) && said.contains(": another "),
+            "{wrong} is not seen:\n{said}"
+        );
+    }
+}
+
+/// Names of the symbols of a program that begin in this way.
+fn symbols(program: &Path, start: &str) -> usize {
+    let listed = printed(Command::new("nm").arg("-P").arg(program));
+    listed
+        .lines()
+        .filter(|line| line.starts_with(start))
+        .count()
+}
+
+/// Not optimised, a program has a function for each that it uses, and none that it does not.
+#[test]
+fn a_host_without_the_struct_pays_nothing() {
+    let folder = folder("host_unused");
+    let (with, without) = (folder.join("with"), folder.join("without"));
+    build_c(&repository("harness/tests/host.c"), &with);
+    build_c(&repository("harness/tests/header.c"), &without);
+    assert!(symbols(&with, "uxn_host_") > 5);
+    assert!(symbols(&without, "uxn_load") == 1);
+    assert_eq!(symbols(&without, "uxn_host_"), 0);
+}
+
+/// C90 has no `inline`: it gets the calls without the struct.
+#[test]
+fn the_calls_are_declared_in_c90_too() {
+    let folder = folder("header_c90");
+    let source = folder.join("calls.c");
+    let text = "#include \"uxn_filter.h\"\n\
+        typedef int uxn_host;\n\
+        int main(void) { return uxn_admit((const uint8_t *)\"\", 0, (uint8_t *)\"\", 0) != UXN_PROGRAM_LENGTH; }\n";
+    fs::write(&source, text).expect("the source is written");
+    let program = folder.join("calls");
+    let mut built = compile("gcc", "c90", &repository("include"), &source, &program);
+    assert_eq!(printed(&mut built), "");
+    assert_eq!(printed(&mut Command::new(&program)), "");
+}
+
+// The version
+
+/// The version, and a sum over the header without comments and white space as it is in that version.
+const INTERFACE: (&str, u64) = ("2", 7_467_912_848_629_276_662);
+
+/// The header without comments and white space.
+fn bare(header: &str) -> String {
+    let mut parts = header.split("/*");
+    let first = parts.next().unwrap_or("").to_owned();
+    let bare = parts.fold(first, |text, part| {
+        let (_, after) = part.split_once("*/").expect("the end of a comment");
+        text + after
+    });
+    bare.split_whitespace().collect()
+}
+
+/// FNV-1a.
+fn sum(text: &str) -> u64 {
+    text.bytes().fold(0xcbf2_9ce4_8422_2325, |sum, byte| {
+        (sum ^ u64::from(byte)).wrapping_mul(0x0100_0000_01b3)
+    })
+}
+
+#[test]
+fn a_change_raises_the_version() {
+    let header = header();
+    let version = header
+        .lines()
+        .find_map(|line| line.strip_prefix("#define UXN_FILTER_VERSION "));
+    let now = (version.expect("the version"), sum(&bare(&header)));
+    assert_eq!(
+        now, INTERFACE,
+        "the header has changed: if a call, a struct or a constant is another one, its version is raised; then this test's \
+         INTERFACE is what stands on the left"
+    );
 }

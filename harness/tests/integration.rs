@@ -66,15 +66,22 @@ fn of_the_archive(page: &str, what: &str) -> String {
     row.unwrap_or_else(|| panic!("the page does not say {what:?}"))[1].clone()
 }
 
-/// The functions that the header declares; each begins a line with its type.
-fn declared(header: &str) -> BTreeSet<String> {
+/// The functions of the header: those that it declares, or those that it has itself. Each begins a
+/// line with its type.
+fn functions(header: &str, own: bool) -> BTreeSet<String> {
     header
         .lines()
         .filter(|line| line.starts_with(char::is_alphabetic))
+        .filter(|line| line.starts_with("static ") == own)
         .filter_map(|line| line.split_once('('))
         .filter_map(|(before, _)| before.rsplit_once(' '))
         .map(|(_, name)| name.to_owned())
         .collect()
+}
+
+/// The calls.
+fn declared(header: &str) -> BTreeSet<String> {
+    functions(header, false)
 }
 
 /// The fields of a struct of the header, in order.
@@ -87,7 +94,7 @@ fn fields(header: &str, name: &str) -> Vec<String> {
         .lines()
         .filter_map(|line| line.split_once(';'))
         .filter_map(|(declaration, _)| declaration.rsplit_once(' '))
-        .map(|(_, field)| field.to_owned())
+        .map(|(_, field)| field.split('[').next().unwrap().to_owned())
         .collect()
 }
 
@@ -102,7 +109,7 @@ fn folder(test: &str) -> PathBuf {
 /// `target/staticlib` where the repository's root has them.
 fn built_and_run(blocks: &[Block], language: &str, name: &str) -> String {
     let source = block(blocks, language, name);
-    let folder = folder(&format!("integration_{language}"));
+    let folder = folder(&format!("integration_{name}"));
     fs::write(folder.join(name), &source.text).expect("the source is written");
     symlink(
         repository("include").canonicalize().unwrap(),
@@ -125,32 +132,20 @@ fn built_and_run(blocks: &[Block], language: &str, name: &str) -> String {
 fn the_programs_print_what_the_page_says() {
     let page = page();
     let blocks = blocks(&page);
-    let expected = &block(&blocks, "text", "").text;
-    assert!(expected.lines().count() > 5, "too little is printed");
-    for (language, name) in [("c", "filter.c"), ("rust", "filter.rs")] {
+    let gcc = "gcc -std=c11 -Wall -Wextra -Werror -pedantic ";
+    let rustc = "rustc --edition 2024 ";
+    for (language, name, printed, compiler) in [
+        ("c", "filter.c", "", gcc),
+        ("rust", "filter.rs", "", rustc),
+        ("c", "calls.c", "calls.c", gcc),
+    ] {
+        let expected = &block(&blocks, "text", printed).text;
+        assert!(expected.lines().count() > 4, "too little is printed");
         assert_eq!(&built_and_run(&blocks, language, name), expected, "{name}");
+        let commands = &block(&blocks, "sh", name).text;
+        assert!(commands.starts_with(compiler), "{commands:?}");
     }
-    let gcc = &block(&blocks, "sh", "filter.c").text;
-    assert!(
-        gcc.starts_with("gcc -std=c11 -Wall -Wextra -Werror -pedantic "),
-        "{gcc:?}"
-    );
-    assert_eq!(blocks.len(), 5, "a block that is not tested");
-}
-
-#[test]
-fn the_header_is_c_plus_plus_too() {
-    let compiler = Command::new("c++").arg("--version").output();
-    if compiler.is_err() {
-        say("passed over: the header in C++, for there is no c++");
-        return;
-    }
-    let mut command = Command::new("c++");
-    command
-        .args(["-Wall", "-Wextra", "-Werror", "-pedantic", "-fsyntax-only"])
-        .args(["-x", "c++"])
-        .arg(repository("include/uxn_filter.h"));
-    assert_eq!(printed(&mut command), "");
+    assert_eq!(blocks.len(), 8, "a block that is not tested");
 }
 
 // Constants and layout
@@ -162,13 +157,19 @@ fn the_page_has_every_constant_with_its_value() {
     let defined: Vec<(String, String)> = header
         .lines()
         .filter_map(|line| line.strip_prefix("#define "))
+        .filter(|rest| !rest.starts_with("UXN_HOST_GIVES("))
         .filter_map(|rest| {
             let mut words = rest.split_whitespace();
             Some((words.next()?.to_owned(), words.next()?.to_owned()))
         })
         .collect();
     assert!(defined.len() > 10, "the header's constants");
-    let mut said = Vec::new();
+    let versions = table(&page, "| `UXN_FILTER_VERSION` | what is new |");
+    for (place, row) in versions.iter().enumerate() {
+        assert_eq!(number(&row[0]), place + 1, "a version is left out");
+    }
+    let version = versions.last().unwrap()[0].clone();
+    let mut said = vec![("UXN_FILTER_VERSION".to_owned(), version)];
     for head in [
         "| answer | value | of | meaning |",
         "| number | value | when | look here |",
@@ -186,7 +187,7 @@ fn the_structs_are_laid_out_as_the_page_says() {
     let page = page();
     let header = header();
     let mut asserted = String::from("#include <stddef.h>\n#include \"uxn_filter.h\"\n");
-    for name in ["uxn_machine", "uxn_reply"] {
+    for name in ["uxn_machine", "uxn_reply", "uxn_host"] {
         let head = format!("| field of `{name}` | type | at | meaning |");
         let (before, _) = page.split_once(&head).expect("the table");
         let (_, size) = before.rsplit_once("It has ").expect("the size");
@@ -196,10 +197,14 @@ fn the_structs_are_laid_out_as_the_page_says() {
         for row in table(&page, &head) {
             let field = row[0].trim_matches('`');
             let kind = row[1].trim_matches('`');
+            let pointer = match kind.split_once('[') {
+                Some((of, length)) => format!("{of} (*)[{length}"),
+                None => format!("{kind} *"),
+            };
             let at = number(&row[2]);
             asserted += &format!(
                 "_Static_assert(offsetof({name}, {field}) == {at}, \"place of {field}\");\n\
-                 _Static_assert(_Generic((({name} *)0)->{field}, {kind}: 1, default: 0), \"type of {field}\");\n"
+                 _Static_assert(_Generic(&(({name} *)0)->{field}, {pointer}: 1, default: 0), \"type of {field}\");\n"
             );
             named.push(field.to_owned());
         }
@@ -210,6 +215,35 @@ fn the_structs_are_laid_out_as_the_page_says() {
     let source = folder.join("layout.c");
     fs::write(&source, asserted).expect("the source is written");
     build_c(&source, &folder.join("layout"));
+}
+
+#[test]
+fn the_page_has_every_function_over_the_struct() {
+    let page = page();
+    let header = header();
+    let rows = table(&page, "| function | call |");
+    let mut named = BTreeSet::new();
+    for row in &rows {
+        let whole = quoted(&row[0]).concat();
+        let (name, given) = whole.split_once('(').expect("a function");
+        let given: Vec<&str> = given.trim_end_matches(')').split(", ").collect();
+        let of_the_header = header
+            .lines()
+            .find_map(|line| line.strip_prefix(&format!("static inline uxn_reply {name}(")))
+            .unwrap_or_else(|| panic!("the header has no {name}"));
+        let parameters: Vec<&str> = of_the_header
+            .trim_end_matches(')')
+            .split(", ")
+            .map(|parameter| parameter.rsplit([' ', '*']).next().unwrap())
+            .collect();
+        assert_eq!(given, parameters, "{name}");
+        for call in quoted(&row[1]) {
+            assert_eq!(call, name.replacen("_host", "", 1));
+            assert!(declared(&header).contains(&call), "{call}");
+        }
+        named.insert(name.to_owned());
+    }
+    assert_eq!(named, functions(&header, true));
 }
 
 // The archive

@@ -2,7 +2,7 @@
 //! other wrong thing. The smallest number that applies is given and no lent byte changes; the guard
 //! bytes beside each buffer are compared with every call.
 
-use uxn_filter_harness::calls::{Reply, MEMORY, PROGRAM_LIMIT, RECORD, REFUSED};
+use uxn_filter_harness::calls::{Reply, MEMORY, NO_DEVICES, PROGRAM_LIMIT, RECORD, REFUSED};
 use uxn_filter_harness::pair::{Pair, Part, RIGHT_LENGTHS};
 use uxn_filter_harness::random::{seed, Random};
 
@@ -81,7 +81,8 @@ fn loads() {
 /// Devices right and wrong, vectors not zero and zero.
 #[test]
 fn events() {
-    for (device, number) in [(0, None), (15, None), (16, Some(6)), (255, Some(6))] {
+    let refused = NO_DEVICES.map(|device| (device, Some(6)));
+    for (device, number) in [(0, None), (15, None)].into_iter().chain(refused) {
         for budget in [0, 1_000] {
             let call = |pair: &mut Pair| pair.event(device, budget);
             with_wrong_buffers("event", number, call);

@@ -77,7 +77,11 @@ fn machine_round(seed: u64) -> u64 {
         record[0] = length.saturating_sub(2) as u8;
         let budget = random.below(3_000) as u32;
         pair.frame(&record, budget);
-        let device = random.below(20) as u8;
+        let device = if random.one_in(8) {
+            random.word() as u32
+        } else {
+            random.below(20) as u32
+        };
         let budget = random.below(300) as u32;
         pair.event(device, budget);
         let budget = random.below(1_000) as u32;

@@ -63,7 +63,7 @@ pub extern "C" fn uxn_event(
     devices: &mut [u8],
     work: &mut [u8],
     ret: &mut [u8],
-    device: u8,
+    device: u32,
     budget: u32,
 ) -> Reply
     ensures { λ r. ⌜ returned r (now (memory .exit)) (now (devices .exit)) (now (work .exit)) (now (ret .exit))

@@ -102,7 +102,7 @@ pub fn event(
     devices: &mut [u8],
     work: &mut [u8],
     ret: &mut [u8],
-    device: u8,
+    device: u32,
     budget: u32,
 ) -> EventReply
     ensures { λ r. ⌜ ofEvent (state (now (memory .exit)) (now (devices .exit)) (now (work .exit)) (now (ret .exit))) r

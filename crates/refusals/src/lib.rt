@@ -16,7 +16,7 @@ const STACK_SIZE: usize = 256;
 const LOAD_MOST: usize = 65280;
 
 // "Event for device d, 0 to 15".
-const LAST_DEVICE: u8 = 15;
+const LAST_DEVICE: u32 = 15;
 
 // Frame: "a record of exactly 64 bytes, no header: length L (0 to 62), node number, L data bytes".
 const FRAME_SIZE: usize = 64;
@@ -63,7 +63,7 @@ pub fn load_refusal(memory: &[u8], devices: &[u8], work: &[u8], ret: &[u8], prog
 }
 
 // "device above 15": 6.
-pub fn event_refusal(memory: &[u8], devices: &[u8], work: &[u8], ret: &[u8], device: u8) -> u8
+pub fn event_refusal(memory: &[u8], devices: &[u8], work: &[u8], ret: &[u8], device: u32) -> u8
     ensures { λ r. ⌜ ((m : Machine) → r ≡ refusal (eventRows device (state (now (memory .entry)) (now (devices .entry)) (now (work .entry)) (now (ret .entry)) m))) ⌝ }
 {
     let n = wrong_length(memory, devices, work, ret);

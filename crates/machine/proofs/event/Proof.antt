@@ -12,6 +12,12 @@ returns : tie.Need-returns
 unfolding eventCall
 returns c = calls.refused _ _ _ (c .before .event-refusal .ensures _) (c .if1 .taken)
 
+cast-input : tie.Need-cast-input
+cast-input c = search (needs, numbers.event-right _ _ (calls.none _ (c .before .before .event-refusal .ensures (c .before .before .before .before .before .before .before .before .before .before .before .args .m)) (c .before .if1 .left)) .1)
+
+mul-input : tie.Need-mul-input
+mul-input c = search (needs, numbers.event-right _ _ (calls.none _ (c .before .before .event-refusal .ensures (c .before .before .before .before .before .before .before .before .before .before .before .args .m)) (c .before .if1 .left)) .1)
+
 input-requires : tie.Need-input-requires
 input-requires c κs = numbers.event-right _ _ (calls.none _ (c .before .before .event-refusal .ensures (c .before .before .before .before .before .before .before .before .before .before .before .args .m)) (c .before .if1 .left)) .0 .devices
 
@@ -36,7 +42,8 @@ event-spec =
     (λ c. search needs)
     (λ c. search needs)
     returns
-    (λ c. search needs)
+    cast-input
+    mul-input
     input-requires
     (λ c. search needs)
     (λ c. search needs)

@@ -1,0 +1,162 @@
+/* The calls of include/uxn_filter.h, each made on buffers lent one by one and once more through a uxn_host. After each, the
+   two replies, the two records and every byte of the buffers must be the same. C99 and C++ both. For tests/header.rs it prints how
+   often each answer of each call came; at a difference it says where, and ends with status 1. */
+#include <stddef.h>
+#include <stdint.h>
+#include <stdio.h>
+#include <string.h>
+
+#include "uxn_filter.h"
+
+enum { LOAD, STEP, RUN, EVENT, FRAME, CALLS };
+
+static const char *const names[CALLS] = {"load", "step", "run", "event", "frame"};
+
+static uint8_t memory[65536], device_page[256], working[256], ret[256];
+static uxn_machine machine;
+static uxn_host host;
+
+#define BUFFERS memory, sizeof memory, device_page, sizeof device_page, working, sizeof working, ret, sizeof ret
+
+/* By call, answer and number. */
+static unsigned met[CALLS][6][12];
+
+/* Xorshift: the same numbers in every run. */
+static uint32_t below(uint32_t end)
+{
+    static uint64_t state = 0x9e3779b97f4a7c15;
+
+    state ^= state << 13;
+    state ^= state >> 7;
+    state ^= state << 17;
+    return (uint32_t)(state >> 32) % end;
+}
+
+static int same_record(uxn_machine one, uxn_machine other)
+{
+    return one.pc == other.pc && one.wp == other.wp && one.rp == other.rp;
+}
+
+static int same_reply(uxn_reply one, uxn_reply other)
+{
+    return same_record(one.machine, other.machine) && one.steps == other.steps && one.number == other.number &&
+           one.answer == other.answer && one.verdict == other.verdict;
+}
+
+/* What differs between the two, or a null pointer. */
+static const char *difference(uxn_reply raw, uxn_reply through)
+{
+    if (!same_reply(raw, through))
+        return "reply";
+    if (!same_record(machine, host.machine))
+        return "record";
+    if (memcmp(memory, host.memory, sizeof memory) != 0)
+        return "memory";
+    if (memcmp(device_page, host.device_page, sizeof device_page) != 0)
+        return "device page";
+    if (memcmp(working, host.working, sizeof working) != 0)
+        return "working stack";
+    if (memcmp(ret, host.ret, sizeof ret) != 0)
+        return "return stack";
+    return NULL;
+}
+
+/* Any bytes, half of them LIT, BRK at a few; 0 is BRK too. */
+static void fill(uint8_t *bytes, size_t length)
+{
+    size_t place;
+
+    for (place = 0; place < length; place++)
+        bytes[place] = below(2) ? 0x80 : (uint8_t)below(256);
+}
+
+/* The same byte into both. */
+static void put(uint8_t *raw, uint8_t *through, uint32_t length)
+{
+    uint32_t place = below(length);
+
+    raw[place] = through[place] = (uint8_t)below(256);
+}
+
+static uxn_reply load(uxn_reply *through)
+{
+    static const uint32_t lengths[] = {0, 1, 65280, 65281};
+    static uint8_t program[65281];
+    size_t length = below(4) ? 1 + below(300) : lengths[below(4)];
+
+    fill(program, length);
+    *through = uxn_host_load(&host, program, length);
+    return uxn_load(machine, BUFFERS, program, length);
+}
+
+static uxn_reply event(uxn_reply *through)
+{
+    static const uint32_t wrong[] = {16, 255, 256, 259, 65536 + 3, UINT32_MAX};
+    uint32_t device = below(4) ? below(16) : wrong[below(6)], budget = below(200);
+    uint8_t high = below(2) ? (uint8_t)below(3) : 0;
+
+    device_page[16 * (device % 16)] = host.device_page[16 * (device % 16)] = high;
+    *through = uxn_host_event(&host, device, budget);
+    return uxn_event(machine, BUFFERS, device, budget);
+}
+
+static uxn_reply frame(uxn_reply *through)
+{
+    uint8_t record[65] = {0};
+    uint32_t data = below(80), length = below(4) ? 64 : 60 + below(6), budget = below(200);
+
+    record[0] = (uint8_t)data;
+    fill(record + 1, data < 62 ? 1 + data : 63);
+    *through = uxn_host_frame(&host, record, length, budget);
+    return uxn_frame(machine, BUFFERS, record, length, budget);
+}
+
+int main(void)
+{
+    uxn_reply raw, through;
+    uint32_t budget;
+    unsigned turn, call, answer, number;
+    const char *differs;
+
+    for (turn = 0; turn < 5000; turn++) {
+        put(memory, host.memory, sizeof memory);
+        put(memory, host.memory, 256);
+        put(device_page, host.device_page, sizeof device_page);
+        put(working, host.working, sizeof working);
+        put(ret, host.ret, sizeof ret);
+        call = turn % 16 == 0 ? (unsigned)LOAD : below(CALLS);
+        switch (call) {
+        case LOAD:
+            raw = load(&through);
+            break;
+        case STEP:
+            through = uxn_host_step(&host);
+            raw = uxn_step(machine, BUFFERS);
+            break;
+        case RUN:
+            budget = below(200);
+            through = uxn_host_run(&host, budget);
+            raw = uxn_run(machine, BUFFERS, budget);
+            break;
+        case EVENT:
+            raw = event(&through);
+            break;
+        default:
+            raw = frame(&through);
+            break;
+        }
+        machine = raw.machine;
+        differs = difference(raw, through);
+        if (differs != NULL) {
+            printf("call %u, %s: another %s\n", turn, names[call], differs);
+            return 1;
+        }
+        met[call][raw.answer][raw.number]++;
+    }
+    for (call = 0; call < CALLS; call++)
+        for (answer = 0; answer < 6; answer++)
+            for (number = 0; number < 12; number++)
+                if (met[call][answer][number] != 0)
+                    printf("%s: answer %u, number %u: %u\n", names[call], answer, number, met[call][answer][number]);
+    return 0;
+}
