@@ -1,6 +1,6 @@
 //! `docs/PROOFS.md` names what there is: every definition, law and function of a row stands in a
 //! file of that row, every must-fail edit is there, and none is left out. What `docs/READING.md`
-//! quotes stands in the tree, word for word. `README.md` has a row for every crate.
+//! quotes stands in the tree, word for word. `README.md` and `CONTRIBUTING.md` name every crate.
 
 use std::collections::BTreeSet;
 use std::fs;
@@ -206,15 +206,19 @@ fn what_is_quoted_stands_in_the_tree() {
 }
 
 #[test]
-fn the_map_has_every_crate() {
+fn the_map_and_the_layers_have_every_crate() {
     let map = text_of(&repository("README.md"));
+    let layers = text_of(&repository("CONTRIBUTING.md"));
+    let has_row = |page: &str, text: &str| {
+        let mut rows = page.lines().filter(|line| line.starts_with('|'));
+        rows.any(|row| row.contains(text))
+    };
     let listed = text_of(&repository("crates.txt"));
     for line in listed.lines().filter(|line| !line.starts_with('#')) {
         let name = line.split(':').next().unwrap().trim();
-        assert!(
-            map.lines()
-                .any(|line| line.starts_with('|') && line.contains(&format!("`crates/{name}"))),
-            "README.md has no row for crates/{name}"
-        );
+        let in_map = has_row(&map, &format!("`crates/{name}"));
+        assert!(in_map, "README.md has no row for crates/{name}");
+        let in_layers = has_row(&layers, &format!("`{name}`"));
+        assert!(in_layers, "CONTRIBUTING.md has no layer with {name}");
     }
 }
