@@ -87,10 +87,13 @@ fn a_verdict_for_each_crate() {
     refused("no proofs", &[], REST);
 }
 
+/// What is changed, and how.
+type Change = (&'static str, fn(&mut Crate));
+
 /// The lines of one crate are changed: of the first one, one between, the last one.
 #[test]
 fn a_verdict_that_is_missing_or_another() {
-    let changes: [(&str, fn(&mut Crate)); 15] = [
+    let changes: [Change; 15] = [
         ("no verdict", |one| one.verdict.clear()),
         ("no line of the crate", |one| one.proved.clear()),
         ("neither", |one| {
