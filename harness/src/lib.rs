@@ -8,12 +8,14 @@
 //! - `listing`: programs written out to be read; `page`: blocks and tables of a page of `docs`;
 //! - `soak`: rounds that go on for minutes;
 //! - `random`, `assembler`, `opcodes`, `programs`, `filters`: where states and programs come from;
-//! - `peers`, `rust_core`, `rust_admission`, `workloads`, `timing`: the speed comparison.
+//! - `peers`, `rust_core`, `rust_admission`, `workloads`, `timing`, `counting`, `settings`: the speed
+//!   comparison.
 
 pub mod admissions;
 pub mod assembler;
 pub mod calls;
 pub mod compiled;
+pub mod counting;
 pub mod filters;
 pub mod library;
 pub mod linked;
@@ -28,6 +30,7 @@ pub mod rust_admission;
 pub mod rust_core;
 pub mod second;
 pub mod second_admission;
+pub mod settings;
 pub mod soak;
 pub mod timing;
 pub mod watch;

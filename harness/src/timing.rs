@@ -34,8 +34,12 @@ impl Row {
 }
 
 pub fn mean_ratio(cores: &[Core], rows: &[Row]) -> f64 {
-    let sum: f64 = rows.iter().map(|row| row.ratio(cores)).sum();
-    sum / rows.len() as f64
+    mean(rows.iter().map(|row| row.ratio(cores)))
+}
+
+fn mean(numbers: impl Iterator<Item = f64>) -> f64 {
+    let numbers: Vec<f64> = numbers.collect();
+    numbers.iter().sum::<f64>() / numbers.len() as f64
 }
 
 /// Panics unless all cores end in the same state, byte for byte.
@@ -126,34 +130,43 @@ pub const ADMITTED_LENGTHS: [usize; 4] = [512, 1_024, 2_048, 4_096];
 /// Program bytes in one turn of an admission.
 const BYTES_IN_A_TURN: usize = 32_768;
 
-/// A shape's nanoseconds of one admission: for each length the library's and those of safe Rust.
+/// A shape's numbers of one admission, nanoseconds or instructions: for each length the library's and
+/// that of safe Rust.
 pub struct Growth {
     pub name: &'static str,
-    pub times: Vec<[f64; 2]>,
+    pub numbers: Vec<[f64; 2]>,
 }
 
 impl Growth {
-    /// The library's time over that of safe Rust, at one of the lengths.
+    /// The library's number over that of safe Rust, at one of the lengths.
     pub fn ratio(&self, at: usize) -> f64 {
-        self.times[at][0] / self.times[at][1]
+        self.numbers[at][0] / self.numbers[at][1]
     }
 
-    /// The greatest of these ratios.
-    pub fn greatest_ratio(&self) -> f64 {
-        (0..self.times.len()).fold(0.0, |greatest, at| greatest.max(self.ratio(at)))
+    fn ratios(&self) -> impl Iterator<Item = f64> + '_ {
+        (0..self.numbers.len()).map(|at| self.ratio(at))
     }
 
-    /// The time for each byte at one of the lengths over that at the first: 1.0 where the time grows
-    /// as the length does.
+    /// The number for each byte at one of the lengths over that at the first: 1.0 where it grows as the
+    /// length does.
     pub fn per_byte(&self, of: usize, at: usize) -> f64 {
-        let each = |at: usize| self.times[at][of] / ADMITTED_LENGTHS[at] as f64;
+        let each = |at: usize| self.numbers[at][of] / ADMITTED_LENGTHS[at] as f64;
         each(at) / each(0)
     }
 
-    /// The library's time at the last length over that at the first.
+    /// The library's number at the last length over that at the first.
     pub fn first_to_last(&self) -> f64 {
-        self.times[self.times.len() - 1][0] / self.times[0][0]
+        self.numbers[self.numbers.len() - 1][0] / self.numbers[0][0]
     }
+}
+
+/// The greatest ratio of all shapes and lengths.
+pub fn greatest_admission_ratio(growths: &[Growth]) -> f64 {
+    growths.iter().flat_map(Growth::ratios).fold(0.0, f64::max)
+}
+
+pub fn mean_admission_ratio(growths: &[Growth]) -> f64 {
+    mean(growths.iter().flat_map(Growth::ratios))
 }
 
 /// Panics unless both admit the program and write the same sheet.
@@ -186,7 +199,7 @@ pub fn time_admissions(admissions: &[Admission; 2], shape: &Shape, rounds: u32) 
     });
     Growth {
         name: shape.name,
-        times: least.as_chunks::<2>().0.to_vec(),
+        numbers: least.as_chunks::<2>().0.to_vec(),
     }
 }
 

@@ -1,19 +1,24 @@
 //! `docs/PROOFS.md` names what there is: every definition, law and function of a row stands in a
-//! file of that row, every must-fail edit is there, and none is left out. `README.md` has a row
-//! for every crate.
+//! file of that row, every must-fail edit is there, and none is left out. What `docs/READING.md`
+//! quotes stands in the tree, word for word. `README.md` and `CONTRIBUTING.md` name every crate.
 
 use std::collections::BTreeSet;
 use std::fs;
 use std::path::{Path, PathBuf};
 
 use uxn_filter_harness::compiled::repository;
-use uxn_filter_harness::page::{self, table};
+use uxn_filter_harness::page::{self, blocks, table};
 
 /// The head of the tables that are looked up.
 const HEAD: &str = "| requirement | definition | theorem or contract | file | must-fail edits |";
 /// The page had so many rows and edits when it was written; fewer would be a part of it lost.
 const ROWS: usize = 65;
 const EDITS: usize = 162;
+/// The head of the tables of `docs/READING.md` whose last column is quoted, and what it had of these
+/// rows and of blocks.
+const SIGNS: &str = "| written | read | as in |";
+const SIGN_ROWS: usize = 29;
+const BLOCKS: usize = 10;
 
 struct Row {
     requirement: String,
@@ -86,6 +91,25 @@ fn edits() -> BTreeSet<String> {
     found
 }
 
+/// The text of every definition, proof and function of the tree.
+fn sources() -> Vec<String> {
+    let mut found = Vec::new();
+    let mut folders = vec![repository("crates")];
+    while let Some(folder) = folders.pop() {
+        for path in entries(&folder) {
+            if path.is_dir() {
+                folders.push(path);
+            } else if path
+                .extension()
+                .is_some_and(|of| of == "antt" || of == "rt")
+            {
+                found.push(text_of(&path));
+            }
+        }
+    }
+    found
+}
+
 fn entries(folder: &Path) -> Vec<PathBuf> {
     let Ok(listed) = fs::read_dir(folder) else {
         return Vec::new();
@@ -153,16 +177,48 @@ fn no_edit_is_one_of_a_proof() {
     }
 }
 
+/// A block names the file that it is from; a line in the last column of a table is from any file.
 #[test]
-fn the_map_has_every_crate() {
+fn what_is_quoted_stands_in_the_tree() {
+    let page = page::read("READING.md");
+    let quoted_blocks = blocks(&page);
+    assert!(quoted_blocks.len() >= BLOCKS, "{}", quoted_blocks.len());
+    for block in &quoted_blocks {
+        let text = text_of(&repository("crates").join(&block.name));
+        assert!(
+            text.contains(&block.text),
+            "{} has no such lines:\n{}",
+            block.name,
+            block.text
+        );
+    }
+    let sources = sources();
+    let rows = table(&page, SIGNS);
+    assert!(rows.len() >= SIGN_ROWS, "only {} rows", rows.len());
+    for row in rows {
+        let lines = quoted(row.last().unwrap());
+        assert!(!lines.is_empty(), "{row:?} quotes nothing");
+        for line in lines {
+            let stands = sources.iter().any(|text| text.contains(&line));
+            assert!(stands, "no file has {line}");
+        }
+    }
+}
+
+#[test]
+fn the_map_and_the_layers_have_every_crate() {
     let map = text_of(&repository("README.md"));
+    let layers = text_of(&repository("CONTRIBUTING.md"));
+    let has_row = |page: &str, text: &str| {
+        let mut rows = page.lines().filter(|line| line.starts_with('|'));
+        rows.any(|row| row.contains(text))
+    };
     let listed = text_of(&repository("crates.txt"));
     for line in listed.lines().filter(|line| !line.starts_with('#')) {
         let name = line.split(':').next().unwrap().trim();
-        assert!(
-            map.lines()
-                .any(|line| line.starts_with('|') && line.contains(&format!("`crates/{name}"))),
-            "README.md has no row for crates/{name}"
-        );
+        let in_map = has_row(&map, &format!("`crates/{name}"));
+        assert!(in_map, "README.md has no row for crates/{name}");
+        let in_layers = has_row(&layers, &format!("`{name}`"));
+        assert!(in_layers, "CONTRIBUTING.md has no layer with {name}");
     }
 }
