@@ -16,12 +16,8 @@ use Rattle.model.proofs.Changes.{length-is}
 use Rattle.model.proofs.Runs.{trace-keeps}
 use Rattle.model.proofs.Marked.{At, no-wrap, above, goes-on}
 use Rattle.model.proofs.Exactness.{passes, smallest, exact}
+use Rattle.model.proofs.Bytes.{every-map}
 use Rattle.model.proofs.Lists.{next-by, Whole, filled-whole, framed-whole, next-whole, filled-above, framed-above, framed-starts, after-load}
-
--- every member of a list has what its having P gives
-every-map : {A : Type 0} {P Q : A → Type 0} → ((x : A) → P x → Q x) → (xs : List A) → Every P xs → Every Q xs
-every-map f [] t = tt
-every-map f (x ∷ xs) t = (f x (t .0), every-map f xs (t .1))
 
 module _ (filter sheet : List ℕ) (written : Smallest filter sheet) (most : length filter ≤ admitMost) (bytes : Bytes filter) where
   -- at a marked address of the sheet

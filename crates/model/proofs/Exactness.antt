@@ -1,6 +1,7 @@
 -- Admission is exact, and its sheet the smallest. Assumes nothing.
 use mathlib.Core.Path.{_≡_, refl, sym, ap, _∙_}
 use mathlib.Core.Bool.{Bool, true, false, not, true≢false}
+use mathlib.Core.Logic.{_↔_}
 use mathlib.Core.List.{List, [], _∷_}
 use Prim.Native.Nat.{ℕ, zero, suc, _+_, _-_, _*_, _/_, _%_, _≤_, _<_}
 use native.Mathlib.Omega.{arith}
@@ -9,14 +10,16 @@ use lib.ListN.{length, getD}
 use lib.Seq.{ext-getD}
 use borrow.Author.Tests.{eq-eqb, ne-eqb, ltb-false, lt-ltb, le-ltb}
 use Rattle.model.specs.Run.Answer.{Admitted}
-use Rattle.model.specs.Admission.{Mark, admitMost, byteAt, Within, markAt, reached, admitted, sheetRecord, recordOf, sheetOf, recordAt, markIn, Smallest}
+use Rattle.model.specs.Admission.{Mark, admitMost, byteAt, Within, successors, Way, GoesOn, Assignment, markAt, reached, admitted, sheetRecord, recordOf, sheetOf, recordAt, markIn, Smallest}
 use Rattle.model.specs.Admission.Mark.{unmarked, marked}
+use Rattle.model.specs.Admission.Way.{begin, go}
 use Rattle.model.specs.Machine.{start}
 use Rattle.model.specs.Calls.{refusal, admitRows, admitBy, admitCall}
 use Rattle.model.specs.Exactness.{Proper, Exact}
+use Rattle.model.proofs.Bytes.{among-every}
 use Rattle.model.proofs.Tests.{is-true}
 use Rattle.model.proofs.Rules.{parts, assigns-is}
-use Rattle.model.proofs.Reached.{reached-least, admitted-exactly}
+use Rattle.model.proofs.Reached.{reached-least, reached-only, admitted-exactly}
 use Rattle.model.proofs.Sheet.{length-sheet, record-byte, record-is, mark-in}
 use Rattle.model.proofs.Numbers.{no-rows, passed-over, given-by, none-says, right}
 
@@ -60,6 +63,24 @@ smallest program sheet ok =
       least = λ f a at w r h. reached-least program f a at w r (sym (mark-in marks program l at) ∙ h);
     }
 
+-- ---- "just the addresses reached from 0100"
+
+on-the-way : (program : List ℕ) (marks : ℕ → Mark) → Assignment program marks → {at w r : ℕ} → Way program at w r → marks at ≡ marked w r
+on-the-way program marks a begin = a .first
+on-the-way program marks a (go {at} {w} {r} way among) =
+    among-every (GoesOn program marks) (successors program at w r) (a .rules at w r (on-the-way program marks a way) .on) among .1
+
+pub marked-exactly : (program sheet : List ℕ) → Passed program sheet
+    → (at w r : ℕ) → (markIn (admitCall program sheet .sheet) at ≡ marked w r) ↔ Way program at w r
+unfolding admitted
+marked-exactly program sheet ok at w r = (
+  λ h. reached-only program at w r (sym (mark-in (reached program) program l at) ∙ rw (ok .written) at h),
+  λ way. on-the-way program _ (smallest program sheet ok .assigned) way,
+)
+  where
+    l : length (reached program) ≡ length program
+    l = parts program (reached program) (ok .fine) .0
+
 -- ---- the number of each program and sheet
 
 some : (program : List ℕ) → 1 ≤ length program → eqb (length program) 0 ≡ false
@@ -88,6 +109,7 @@ exact =
             rw (numbered program sheet (proper-number program sheet h ∙ passed-over 11 _ [] (ap not e) ∙ no-rows)),
       );
       written = λ program sheet t. smallest program sheet (passes program sheet t);
+      just = λ program sheet t. marked-exactly program sheet (passes program sheet t);
       none = λ program sheet h none.
           let e = is-true (not (admitted program)) (not-T (admitted program) (λ t. none (admitted-exactly program .0 t))) in
           numbered program sheet (proper-number program sheet h ∙ given-by 11 _ [] e);

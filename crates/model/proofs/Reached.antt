@@ -9,11 +9,13 @@ use native.Mathlib.Omega.{arith}
 use lib.Dec.{T, eqb, ltb, eqb-refl}
 use lib.ListN.{length, getD, set, length-set, replicate, length-replicate}
 use lib.Seq.{getD-set-same}
-use borrow.Author.Tests.{le-ltb}
+use borrow.Author.Tests.{le-ltb, ltb-false}
 use Rattle.model.specs.Bytes.{Every}
 use Rattle.model.specs.Machine.{start}
-use Rattle.model.specs.Admission.{Mark, countMarked, byteAt, successors, GoesOn, Assignment, Assignable, markAt, sameMark, all, ruleTests, goesOn, fits, fitsFrom, assigns, keepMark, markOne, markEach, follow, sweep, sweeps, reached, admitted}
+use Rattle.model.specs.Admission.{Mark, countMarked, byteAt, successors, Way, GoesOn, Assignment, Assignable, markAt, sameMark, all, ruleTests, goesOn, fits, fitsFrom, assigns, keepMark, markOne, markEach, follow, sweep, sweeps, reached, admitted}
 use Rattle.model.specs.Admission.Mark.{unmarked, marked}
+use Rattle.model.specs.Admission.Way.{begin, go}
+use Rattle.model.proofs.Bytes.{every-map, every-among}
 use Rattle.model.proofs.Changes.{length-is}
 use Rattle.model.proofs.Tests.{and-both}
 use Rattle.model.proofs.Rules.{mark-same, not-both, marked-at, marked-within, assigns-is, rules-test, every-fits}
@@ -163,11 +165,18 @@ module _ (program : List ℕ) where
       by (yes i) ih = rw (← i) q
       by (no i) ih = ih (omega arith) (omega arith)
 
--- ---- every assignment has the marks that are reached
+-- ---- what holds of each mark: of the first, and of the successors of each address of which it holds
+
+-- P holds of each mark of x, and of the mark that a successor comes with
+abbrev Holds : (ℕ → ℕ → ℕ → Type 0) → List Mark → Type 0
+Holds P x = (at w r : ℕ) → markAt x at ≡ marked w r → P at w r
+
+abbrev HoldsNext : (ℕ → ℕ → ℕ → Type 0) → ℕ × Mark → Type 0
+HoldsNext P next = (w r : ℕ) → next .1 ≡ marked w r → P (next .0) w r
 
 -- each mark of x is one of f
 abbrev Agrees : List Mark → (ℕ → Mark) → Type 0
-Agrees x f = (at w r : ℕ) → markAt x at ≡ marked w r → f at ≡ marked w r
+Agrees x f = Holds (λ at w r. f at ≡ marked w r) x
 
 -- a mark after one more was set: it was there, or it is that one
 set-cases : (x : List Mark) (i j : ℕ) (v : Mark) {w r : ℕ} → getD (set x i (keepMark (getD x i unmarked) v)) j unmarked ≡ marked w r
@@ -179,15 +188,19 @@ set-cases (a ∷ x) zero (suc j) v e = inl e
 set-cases (a ∷ x) (suc i) zero v e = inl e
 set-cases (a ∷ x) (suc i) (suc j) v e = elim (set-cases x i j v e) [ inl f ↦ inl f | inr f ↦ inr (ap suc (f .0), f .1) ]
 
-agrees-one : (x : List Mark) (f : ℕ → Mark) (at : ℕ) (v : Mark) → start ≤ at → f at ≡ v → Agrees x f → Agrees (markOne x at v) f
+holds-one : (P : ℕ → ℕ → ℕ → Type 0) (x : List Mark) (at : ℕ) (v : Mark) → HoldsNext P (at, v) → Holds P x → Holds P (markOne x at v)
 unfolding markOne markAt
-agrees-one x f at v l h g b w r e =
-    let y = set x (at - start) (keepMark (getD x (at - start) unmarked) v) in
-    let k = marked-at y b w r (rw (le-ltb at start l) at e) in
-    elim (set-cases x (at - start) (b - start) v (k .1)) [
-      | inl u ↦ g b w r (rw (le-ltb b start (k .0)) u)
-      | inr u ↦ let i : b ≡ at = omega (arith, u .0, k .0, l) in rw i (h ∙ u .1)
-    ]
+holds-one P x at v h g b w r = by (ltb at start) refl
+  where
+    by : (t : Bool) → ltb at start ≡ t
+        → markAt (cond t x (set x (at - start) (keepMark (cond t unmarked (getD x (at - start) unmarked)) v))) b ≡ marked w r → P b w r
+    by true q e = g b w r e
+    by false q e =
+        let k = marked-at (set x (at - start) (keepMark (getD x (at - start) unmarked) v)) b w r e in
+        elim (set-cases x (at - start) (b - start) v (k .1)) [
+          | inl u ↦ g b w r (rw (le-ltb b start (k .0)) u)
+          | inr u ↦ let i : b ≡ at = omega (arith, u .0, k .0, ltb-false at start q) in rw i (h w r (u .1))
+        ]
 
 -- an address at which one more mark changes nothing has a mark already, or that one
 still-kept : (x : List Mark) (at : ℕ) (v : Mark) → start ≤ at → at - start < length x → markOne x at v ≡ x
@@ -207,29 +220,30 @@ still-one x f at v l h e g s = by (markAt x at) refl
     by unmarked q = still-kept x at v l h s ∙ ap (λ z. keepMark z v) q
     by (marked w r) q = q ∙ sym (g at w r q) ∙ e
 
-module _ (program : List ℕ) (f : ℕ → Mark) (assigned : Assignment program f) where
-  agrees-each : (x : List Mark) (nexts : List (ℕ × Mark)) → Every (GoesOn program f) nexts → Agrees x f → Agrees (markEach x nexts) f
+module _ (program : List ℕ) (P : ℕ → ℕ → ℕ → Type 0)
+    (closed : (at w r : ℕ) → P at w r → Every (HoldsNext P) (successors program at w r)) where
+  holds-each : (x : List Mark) (nexts : List (ℕ × Mark)) → Every (HoldsNext P) nexts → Holds P x → Holds P (markEach x nexts)
   unfolding markEach
-  agrees-each x [] t g = g
-  agrees-each x (n ∷ ns) t g =
-      agrees-each (markOne x (n .0) (n .1)) ns (t .1) (agrees-one x f (n .0) (n .1) (t .0 .0 .0) (t .0 .1) g)
+  holds-each x [] t g = g
+  holds-each x (n ∷ ns) t g = holds-each (markOne x (n .0) (n .1)) ns (t .1) (holds-one P x (n .0) (n .1) (t .0) g)
 
-  agrees-follow : (x : List Mark) (at : ℕ) (a : Mark) → markAt x at ≡ a → Agrees x f → Agrees (follow program x at a) f
+  holds-follow : (x : List Mark) (at : ℕ) (a : Mark) → markAt x at ≡ a → Holds P x → Holds P (follow program x at a)
   unfolding follow
-  agrees-follow x at unmarked e g = g
-  agrees-follow x at (marked w r) e g = agrees-each x (successors program at w r) (assigned .rules at w r (g at w r e) .on) g
+  holds-follow x at unmarked e g = g
+  holds-follow x at (marked w r) e g = holds-each x (successors program at w r) (closed at w r (g at w r e)) g
 
-  agrees-sweep : (n at : ℕ) (x : List Mark) → Agrees x f → Agrees (sweep program n at x) f
+  holds-sweep : (n at : ℕ) (x : List Mark) → Holds P x → Holds P (sweep program n at x)
   unfolding sweep
-  agrees-sweep zero at x g = g
-  agrees-sweep (suc n) at x g =
-      agrees-sweep n (at + 1) (follow program x at (markAt x at)) (agrees-follow x at (markAt x at) refl g)
+  holds-sweep zero at x g = g
+  holds-sweep (suc n) at x g =
+      holds-sweep n (at + 1) (follow program x at (markAt x at)) (holds-follow x at (markAt x at) refl g)
 
-  agrees-sweeps : (n : ℕ) (x : List Mark) → Agrees x f → Agrees (sweeps program n x) f
+  holds-sweeps : (n : ℕ) (x : List Mark) → Holds P x → Holds P (sweeps program n x)
   unfolding sweeps
-  agrees-sweeps zero x g = g
-  agrees-sweeps (suc n) x g = agrees-sweeps n (sweep program (length program) start x) (agrees-sweep (length program) start x g)
+  holds-sweeps zero x g = g
+  holds-sweeps (suc n) x g = holds-sweeps n (sweep program (length program) start x) (holds-sweep (length program) start x g)
 
+module _ (program : List ℕ) (f : ℕ → Mark) where
   -- where nothing changes, each successor has its mark
   still-each : (x : List Mark) (nexts : List (ℕ × Mark)) → length x ≡ length program → Agrees x f
       → Every (GoesOn program f) nexts → markEach x nexts ≡ x → T (goesOn x nexts)
@@ -272,17 +286,34 @@ unfolding reached
 length-reached program =
     grows-length (grows-sweeps program (length program) (begun (length program))) ∙ simp (length-set, length-replicate)
 
+-- what holds of 0100 with 0 and 0, and goes on to successors, holds of each mark that is reached
+pub holds-reached : (program : List ℕ) (P : ℕ → ℕ → ℕ → Type 0)
+    → ((at w r : ℕ) → P at w r → Every (HoldsNext P) (successors program at w r)) → P start 0 0 → Holds P (reached program)
+unfolding reached
+holds-reached program P closed first =
+    holds-sweeps program P closed (length program) (begun (length program)) (λ at w r e.
+      let d = marked-at (begun (length program)) at w r e in
+      let c = begun-cases (length program) (at - start) w r (d .1) in
+      let i : at ≡ start = omega (arith, d .0, c .0) in
+      let d : 0 ≡ w = cc in
+      let q : 0 ≡ r = cc in
+      rw (i, ← d, ← q) first)
+
+-- ---- "just the addresses reached from 0100"
+
+pub reached-only : (program : List ℕ) → Holds (Way program) (reached program)
+reached-only program =
+    holds-reached program (Way program)
+    (λ at w r way. every-among (successors program at w r) (λ next among w r h. go way (rw h at among))) begin
+
 -- ---- what is reached passes the test, if there is an assignment
 
 module _ (program : List ℕ) (f : ℕ → Mark) (assigned : Assignment program f) where
   -- "which every assignment marks with the same depths"
   pub reached-least : Agrees (reached program) f
-  unfolding reached
-  reached-least = agrees-sweeps program f assigned (length program) (begun (length program)) (λ at w r e.
-      let d = marked-at (begun (length program)) at w r e in
-      let c = begun-cases (length program) (at - start) w r (d .1) in
-      let i : at ≡ start = omega (arith, d .0, c .0) in
-      rw i (assigned .first ∙ c .1))
+  reached-least =
+      holds-reached program (λ at w r. f at ≡ marked w r)
+      (λ at w r e. every-map (λ next g w r h. g .1 ∙ h) (successors program at w r) (assigned .rules at w r e .on)) (assigned .first)
 
   some : 0 < length program
   some =
@@ -310,7 +341,7 @@ module _ (program : List ℕ) (f : ℕ → Mark) (assigned : Assignment program 
       let i = marked-within program x at w r (length-reached program) e in
       let s : markEach x nexts ≡ x = rw (e, follow) at (still-follow program (length program) start x reached-still at (i .0) (i .1)) in
       and-both (all (ruleTests program at w r)) (goesOn x nexts) (rules-test program f at w r q)
-      (still-each program f assigned x nexts (length-reached program) reached-least (q .on) s)
+      (still-each program f x nexts (length-reached program) reached-least (q .on) s)
 
   pub reached-assigns : T (admitted program)
   unfolding admitted assigns markAt

@@ -6,7 +6,7 @@ use mathlib.Core.List.{List, [], _∷_, _++_}
 use Prim.Native.Nat.{ℕ, zero, suc, _+_, _-_, _*_, _%_, _≤_, _<_}
 use lib.Dec.{T, eqb, ltb, leb}
 use lib.ListN.{length, getD, set, replicate, take, drop}
-use Rattle.model.specs.Bytes.{Every, number, oneOf}
+use Rattle.model.specs.Bytes.{Every, Among, number, oneOf}
 use Rattle.model.specs.Machine.{start}
 use Rattle.model.specs.Instruction.{keepMode, working, returning, takenFrom, pushedOn, lengthOf}
 use Rattle.model.specs.Step.{offset}
@@ -60,6 +60,12 @@ successors program at w r =
     (cond (eqb byte 0x20) ((next, mark) ∷ (target, mark) ∷ [])
     (cond (eqb byte 0x40) ((target, mark) ∷ [])
     ((next, mark) ∷ [])))
+
+-- "the addresses reached from 0100": a way leads from 0100, where both depths are 0, to an address with the depths there, each
+-- address on it a successor of the one before
+pub data Way (program : List ℕ) : ℕ → ℕ → ℕ → Type 0 where
+  begin : Way program start 0 0
+  go : {at w r to v q : ℕ} → Way program at w r → Among (to, marked v q) (successors program at w r) → Way program to v q
 
 -- ---- the rules, for marks of any kind
 

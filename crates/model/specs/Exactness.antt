@@ -8,7 +8,8 @@ use Prim.Native.Nat.{ℕ, _*_, _≤_, _<_}
 use lib.ListN.{length}
 use Rattle.model.specs.Bytes.{zeros}
 use Rattle.model.specs.Run.Answer.{Refused, Admitted}
-use Rattle.model.specs.Admission.{admitMost, sheetRecord, Assignable, Smallest}
+use Rattle.model.specs.Admission.{admitMost, Way, Assignable, sheetRecord, markIn, Smallest}
+use Rattle.model.specs.Admission.Mark.{marked}
 use Rattle.model.specs.Calls.{AdmitResult, admitCall}
 
 -- "A filter of 1 to 4,096 bytes, given a sheet of the right length"
@@ -28,6 +29,9 @@ pub record Exact : Type 0 where
   -- "The sheet written is the smallest one"
   pub written : (program sheet : List ℕ) → admitCall program sheet .answer ≡ Admitted
       → Smallest program (admitCall program sheet .sheet)
+  -- "just the addresses reached from 0100"
+  pub just : (program sheet : List ℕ) → admitCall program sheet .answer ≡ Admitted
+      → (at w r : ℕ) → (markIn (admitCall program sheet .sheet) at ≡ marked w r) ↔ Way program at w r
   -- 11: "no assignment", "sheet all zero"
   pub none : (program sheet : List ℕ) → Proper program sheet → (Assignable program → ⊥)
       → admitCall program sheet ≡ refused 11 (zeros (length sheet))
