@@ -9,9 +9,10 @@ use lib.ListN.{replicate}
 use borrow.Author.Tests.{eqb-false}
 use Rattle.model.specs.Bytes.{Bytes, zeros}
 use Rattle.model.specs.Machine.{memorySize, pageSize, stackSize, State}
-use Rattle.model.specs.Run.Answer.{Loaded, Admitted}
+use Rattle.model.specs.Run.{Answer}
+use Rattle.model.specs.Run.Answer.{Refused, Loaded, Broke, Spent, Admitted}
 use Rattle.model.specs.Admission.{sheetRecord}
-use Rattle.model.specs.Calls.{numberOf, loadCall, frameCall, admitCall}
+use Rattle.model.specs.Calls.{loadCall, frameCall, admitCall}
 use Rattle.model.specs.Cases.{used, frameOf}
 use Rattle.model.specs.Demand3.{Filling, Lent, Call, filled, given, handedBack, called, next, Safe}
 use Rattle.model.specs.Demand3.Lent.{own, other}
@@ -97,15 +98,15 @@ loads = refl
 pub instance : Safe filter (admitCall filter (zeros (sheetRecord * 34)) .sheet) (loadCall filter used .state) calls
 instance = demand3 .safe filter (zeros (sheetRecord * 34)) filter-bytes admits used loads calls
 
--- ---- what these calls reply: number, steps and verdict of each
+-- ---- what these calls reply: answer, steps and verdict of each
 
-abbrev pub replies : State → List Call → List (ℕ × ℕ × ℕ)
+abbrev pub replies : State → List Call → List (Answer × ℕ × ℕ)
 replies s [] = []
 replies s (c ∷ cs) =
     let r = frameCall (c .frame) (c .budget) (called c s) in
-    (numberOf (r .answer), r .steps, r .verdict) ∷ replies (next c s) cs
+    (r .answer, r .steps, r .verdict) ∷ replies (next c s) cs
 
 pub answers : replies (loadCall filter used .state) calls
-    ≡ (0, 46, 1) ∷ (8, 0, 0) ∷ (7, 0, 0) ∷ (1, 0, 0) ∷ (2, 0, 0) ∷ (0, 0, 0) ∷ (0, 20, 0) ∷ (0, 35, 0) ∷ []
+    ≡ (Broke, 46, 1) ∷ (Refused 8, 0, 0) ∷ (Refused 7, 0, 0) ∷ (Refused 1, 0, 0) ∷ (Refused 2, 0, 0) ∷ (Spent, 0, 0) ∷ (Spent, 20, 0) ∷ (Broke, 35, 0) ∷ []
 unfolding calls filling filter used filled given handedBack calling
 answers = refl
