@@ -11,7 +11,7 @@ use Rattle.model.specs.Step.{popWraps, pushWraps, stackWraps}
 use Rattle.model.specs.Run.{run}
 use Rattle.model.specs.Run.Answer.{Admitted}
 use Rattle.model.specs.Calls.{hasLength, unless, loadMost, load, loadCall, admitCall}
-use Rattle.model.specs.Cases.{Case, claimed, allClaimed, used, loadAndRun, allHold, starred, mistakes, example, exampleSheet, depthsFine, depthsNot, depthsAre, numbered, agree, summing, framesSeen, vectored, eventsSeen, wrapping, notWrapping, wrapsAre}
+use Rattle.model.specs.Cases.{Case, claimed, allClaimed, used, loadAndRun, allHold, starred, mistakes, sentences, example, exampleSheet, depthsFine, depthsNot, depthsAre, numbered, agree, summing, framesSeen, vectored, eventsSeen, wrapping, notWrapping, wrapsAre}
 use Rattle.model.proofs.Tests.{and-left, and-right, and-both, is-true, not-true}
 use Rattle.model.proofs.Numbers.{load-right, load-passed, load-sized, run-passed}
 use Rattle.model.proofs.Computing.{stepping, admitting, calling}
@@ -65,6 +65,10 @@ example-sheet = refl
 pub mistakes-show : T (allHold mistakes)
 unfolding mistakes allClaimed claimed calling
 mistakes-show = all-hold mistakes tt
+
+pub sentences-hold : T (allHold sentences)
+unfolding sentences allClaimed claimed calling
+sentences-hold = all-hold sentences tt
 
 pub depths-hold : T (depthsAre true depthsFine) × T (depthsAre false depthsNot)
 unfolding depthsAre depthsFine depthsNot admitting

@@ -1,5 +1,5 @@
 -- Document 01, "Bench sheet": the cases marked *, as programs and what is claimed of them, and the sheet of its example;
--- with the mistakes that it names, the numbered replies, frame and event calls, and steps that wrap a stack.
+-- with the mistakes that it names, further sentences, the numbered replies, frame and event calls, and steps that wrap a stack.
 -- Assumes nothing.
 use mathlib.Core.Bool.{Bool, true, false, Bool·beq, _&&_}
 use mathlib.Core.List.{List, [], _∷_, _++_}
@@ -165,6 +165,24 @@ mistakes =
     -- "Reading 80 as BRK with keep."
     ∷ case (0x80 ∷ 0x00 ∷ []) 1
     (answers Spent ∷ steps 1 ∷ workIs (0x00 ∷ []) ∷ [])
+    ∷ []
+
+-- sentences of "Machine parts", "Instruction bytes" and "Calls" that no case above shows
+unfoldable pub sentences : List Case
+sentences =
+    -- "Budget 0 is Spent with 0 steps."
+    case (0x00 ∷ []) 0
+    (answers Spent ∷ steps 0 ∷ counter 0x0100 ∷ [])
+    -- "BRK on the last unit is Broke. After BRK the counter is just past it."
+    ∷ case (0x00 ∷ []) 1
+    (answers Broke ∷ steps 1 ∷ counter 0x0101 ∷ [])
+    -- "Bit 6: the return stack is the main one and the working stack the other": LITr 05 LITr 03 ADDr DUPr STHr BRK
+    ∷ case (0xC0 ∷ 0x05 ∷ 0xC0 ∷ 0x03 ∷ 0x58 ∷ 0x46 ∷ 0x4F ∷ 0x00 ∷ []) enough
+    (workIs (0x08 ∷ []) ∷ retIs (0x08 ∷ []) ∷ [])
+    -- "Every fetch, operand byte and program counter sum is modulo 65,536": LIT 05 LIT 00 STZ puts 05 at 0000, LIT 80 LIT2 FFFF
+    -- STA puts LIT at FFFF, and LIT2 FFFF JMP2 goes there
+    ∷ case (0x80 ∷ 0x05 ∷ 0x80 ∷ 0x00 ∷ 0x11 ∷ 0x80 ∷ 0x80 ∷ 0xA0 ∷ 0xFF ∷ 0xFF ∷ 0x15 ∷ 0xA0 ∷ 0xFF ∷ 0xFF ∷ 0x2C ∷ []) enough
+    (answers Broke ∷ steps 10 ∷ counter 0x0002 ∷ workIs (0x05 ∷ []) ∷ [])
     ∷ []
 
 -- "Admission that .. takes depth 256 for 0": working depths at which ROT2 with keep, which takes six bytes and pushes six,
