@@ -292,12 +292,12 @@ pub holds-reached : (program : List ℕ) (P : ℕ → ℕ → ℕ → Type 0)
 unfolding reached
 holds-reached program P closed first =
     holds-sweeps program P closed (length program) (begun (length program)) (λ at w r e.
-      let d = marked-at (begun (length program)) at w r e in
-      let c = begun-cases (length program) (at - start) w r (d .1) in
-      let i : at ≡ start = omega (arith, d .0, c .0) in
-      let d : 0 ≡ w = cc in
-      let q : 0 ≡ r = cc in
-      rw (i, ← d, ← q) first)
+    let d = marked-at (begun (length program)) at w r e in
+    let c = begun-cases (length program) (at - start) w r (d .1) in
+    let i : at ≡ start = omega (arith, d .0, c .0) in
+    let d : 0 ≡ w = cc in
+    let q : 0 ≡ r = cc in
+    rw (i, ← d, ← q) first)
 
 -- ---- "just the addresses reached from 0100"
 
