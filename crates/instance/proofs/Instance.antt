@@ -13,7 +13,7 @@ use Rattle.model.specs.Run.{Answer}
 use Rattle.model.specs.Run.Answer.{Refused, Loaded, Broke, Spent, Admitted}
 use Rattle.model.specs.Admission.{sheetRecord}
 use Rattle.model.specs.Calls.{loadCall, frameCall, admitCall}
-use Rattle.model.specs.Cases.{used, frameOf}
+use Rattle.model.specs.Cases.{used, frameRecord}
 use Rattle.model.specs.Demand3.{Filling, Lent, Call, filled, given, handedBack, called, next, Safe}
 use Rattle.model.specs.Demand3.Lent.{own, other}
 use Rattle.model.proofs.Bytes.{nil-bytes, cons-bytes}
@@ -76,14 +76,14 @@ none = other [] (eqb-false 0 256 refl)
 
 pub calls : List Call
 calls =
-    call own own own own (frameOf 3 (0x05 ∷ 0x0C ∷ 0x09 ∷ [])) tt 100  -- checksum 0
+    call own own own own (frameRecord 3 (0x05 ∷ 0x0C ∷ 0x09 ∷ [])) tt 100  -- checksum 0
     ∷ call own own own own (63 ∷ zeros 63) tt 100  -- L above 62
     ∷ call own own own own (zeros 63) tt 100  -- a record of 63 bytes
-    ∷ call (other (zeros 65535) (eqb-false 65535 65536 refl)) own own own (frameOf 0 []) tt 100  -- a memory of 65,535 bytes
-    ∷ call own none own none (frameOf 0 []) tt 100  -- no device page and no return stack
-    ∷ call own own own own (frameOf 0 []) tt 0  -- budget 0
-    ∷ call own own own own (frameOf 2 (0x05 ∷ 0x06 ∷ [])) tt 20  -- a budget that ends in the loop
-    ∷ call own own own own (frameOf 2 (0x05 ∷ 0x06 ∷ [])) tt 100  -- checksum 3
+    ∷ call (other (zeros 65535) (eqb-false 65535 65536 refl)) own own own (frameRecord 0 []) tt 100  -- a memory of 65,535 bytes
+    ∷ call own none own none (frameRecord 0 []) tt 100  -- no device page and no return stack
+    ∷ call own own own own (frameRecord 0 []) tt 0  -- budget 0
+    ∷ call own own own own (frameRecord 2 (0x05 ∷ 0x06 ∷ [])) tt 20  -- a budget that ends in the loop
+    ∷ call own own own own (frameRecord 2 (0x05 ∷ 0x06 ∷ [])) tt 100  -- checksum 3
     ∷ []
 
 admits : admitCall filter (zeros (sheetRecord * 34)) .answer ≡ Admitted

@@ -200,8 +200,8 @@ depthsAre b (w ∷ ws) = Bool·beq (all (ruleTests (0xA5 ∷ []) start w 0)) b &
 -- ---- "Numbered replies": the number that a call answers, 0 if it is not refused, and the one that it should
 
 -- a frame record: length, node number, bytes, zeros to the end
-abbrev pub frameOf : ℕ → List ℕ → List ℕ
-frameOf l bytes = l ∷ 0x07 ∷ bytes ++ zeros (frameSize - (2 + length bytes))
+abbrev pub frameRecord : ℕ → List ℕ → List ℕ
+frameRecord l bytes = l ∷ 0x07 ∷ bytes ++ zeros (frameSize - (2 + length bytes))
 
 unfoldable pub numbered : List (ℕ × ℕ)
 numbered =
@@ -217,9 +217,9 @@ numbered =
     ∷ (numberOf (eventCall 16 0 used .answer), 6)
     ∷ (numberOf (frameCall (replicate 63 0xAA) 0 used .answer), 7)
     ∷ (numberOf (frameCall (replicate 65 0x00) 0 used .answer), 7)
-    ∷ (numberOf (frameCall (frameOf 62 (replicate 62 0xAA)) 0 used .answer), 0)
-    ∷ (numberOf (frameCall (frameOf 63 (replicate 62 0xAA)) 0 used .answer), 8)
-    ∷ (numberOf (frameCall (frameOf 0 (0x01 ∷ [])) 0 used .answer), 8)
+    ∷ (numberOf (frameCall (frameRecord 62 (replicate 62 0xAA)) 0 used .answer), 0)
+    ∷ (numberOf (frameCall (frameRecord 63 (replicate 62 0xAA)) 0 used .answer), 8)
+    ∷ (numberOf (frameCall (frameRecord 0 (0x01 ∷ [])) 0 used .answer), 8)
     ∷ (numberOf (admitCall [] (0x00 ∷ []) .answer), 5)
     ∷ (numberOf (admitCall (replicate 4096 0x00) [] .answer), 10)
     ∷ (numberOf (admitCall (replicate 4097 0x00) [] .answer), 9)
@@ -241,9 +241,9 @@ summing = 0x80 ∷ 0x82 ∷ 0x10 ∷ 0x80 ∷ 0xF2 ∷ 0x16 ∷ 0x18 ∷ 0x80 �
 -- a load; a frame that is Broke; one that is Spent just before BRK; one that is Broke again
 unfoldable pub framesSeen : List (ℕ × ℕ)
 framesSeen =
-    let a = frameCall (frameOf 1 (0x03 ∷ [])) 9 (loadCall summing used .state) in
-    let b = frameCall (frameOf 1 (0x04 ∷ [])) 8 (a .state) in
-    let c = frameCall (frameOf 1 (0x05 ∷ [])) 10000 (b .state) in
+    let a = frameCall (frameRecord 1 (0x03 ∷ [])) 9 (loadCall summing used .state) in
+    let b = frameCall (frameRecord 1 (0x04 ∷ [])) 8 (a .state) in
+    let c = frameCall (frameRecord 1 (0x05 ∷ [])) 10000 (b .state) in
     (answerCode (a .answer), answerCode Broke)
     ∷ (a .steps, 9)
     ∷ (a .verdict, 3)
