@@ -881,6 +881,44 @@ fn sheet_says_what_it_can_not_read_or_write() {
     }
 }
 
+// Success
+
+/// The command by which `README.md` tells whether a program is admitted.
+#[test]
+fn a_script_tells_success() {
+    let folder = folder("a_script_tells_success");
+    let page = fs::read_to_string(repository("README.md")).expect("the page");
+    let shown: Vec<&str> = page
+        .lines()
+        .filter(|line| line.contains("2> said"))
+        .collect();
+    let [shown] = shown[..] else {
+        panic!("one command of README.md: {shown:?}");
+    };
+    let script = |before: &str, code: &[u8]| {
+        let rom = file(&folder, "program.rom", code);
+        let mut command = shown.to_owned();
+        for (named, path) in [
+            ("target/bin/sheet", program("sheet")),
+            ("crates/frames/data/filter.rom", rom),
+        ] {
+            let path = format!("'{}'", path.display());
+            assert_eq!(command.matches(named).count(), 1, "{shown}");
+            command = command.replace(named, &path);
+        }
+        let mut shell = Command::new("sh");
+        shell.args(["-c", &format!("{before}; {command}")]);
+        let output = run(shell.current_dir(&folder), &[]);
+        String::from_utf8(output.stdout).expect("text")
+    };
+    assert_eq!(script("true", &PASSES), "admitted\n");
+    let written = fs::read(folder.join("filter.sheet")).expect("the sheet");
+    assert_eq!(written, PASSES_SHEET);
+    assert_eq!(script("true", &REFUSED), "refused 11\n");
+    // A file that must not have a byte: the signal ends the program before it can say so.
+    assert_eq!(script("ulimit -f 0", &PASSES), "");
+}
+
 // Both, under valgrind
 
 /// A run, and what it should write.
