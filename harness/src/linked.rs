@@ -13,6 +13,7 @@ use std::process::{Child, Command, Output, Stdio};
 use std::thread;
 use std::time::{Duration, Instant};
 
+use crate::assembler::assemble;
 use crate::calls::{ADMITTED, MEMORY, PAGE, PROGRAM_LIMIT, RECORD, SHEET_RECORD};
 use crate::compiled::repository;
 use crate::random::Random;
@@ -41,6 +42,12 @@ pub const SIGPIPE: i32 = 13;
 
 /// `80 01 80 F2 17 00`: passes every frame.
 pub const PASSES: [u8; 6] = [0x80, 0x01, 0x80, 0xf2, 0x17, 0x00];
+
+/// Passes a frame whose first data byte is not 0, in few steps: what takes time is the reading and
+/// the writing.
+pub fn quick() -> Vec<u8> {
+    assemble("LIT 82 LDZ LIT f2 DEO BRK")
+}
 
 // Programs and files
 

@@ -20,9 +20,9 @@ use uxn_filter_harness::assembler::assemble;
 use uxn_filter_harness::calls::{ADMIT_LIMIT, PROGRAM_LIMIT, RECORD};
 use uxn_filter_harness::filters::{any, any_length, filter};
 use uxn_filter_harness::linked::{
-    self, after, ends, expected_lines, expected_sheet, feed, file, frames, pipe, random_record,
-    said_at_end, same, sheet, Written, INPUT, IS_FOLDER, NOT_READ, NO_FILE, NO_READER, NO_SPACE,
-    OUTPUT, SIGPIPE,
+    self, after, ends, expected_lines, expected_sheet, feed, file, frames, pipe, quick,
+    random_record, said_at_end, same, sheet, Written, INPUT, IS_FOLDER, NOT_READ, NO_FILE,
+    NO_READER, NO_SPACE, OUTPUT, SIGPIPE,
 };
 use uxn_filter_harness::programs::{either, random_bytes};
 use uxn_filter_harness::random::Random;
@@ -389,11 +389,6 @@ fn compare(seed: u64, folder: &Path, run: Run, expected: &Expected, total: &mut 
 }
 
 // frames
-
-/// Passes a frame whose first data byte is not 0, in few steps.
-fn quick() -> Vec<u8> {
-    assemble("LIT 82 LDZ LIT f2 DEO BRK")
-}
 
 /// A program of every kind, and whether it takes few steps.
 fn any_program(random: &mut Random) -> (Vec<u8>, bool) {

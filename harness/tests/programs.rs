@@ -10,7 +10,7 @@ use std::os::unix::net::UnixStream;
 use std::os::unix::process::ExitStatusExt;
 use std::path::{Path, PathBuf};
 use std::process::{Command, Stdio};
-use std::sync::Mutex;
+use std::sync::{mpsc, Mutex};
 use std::thread;
 use std::time::{Duration, Instant};
 
@@ -20,9 +20,9 @@ use uxn_filter_harness::compiled::{printed, repository};
 use uxn_filter_harness::filters::{any, any_length};
 use uxn_filter_harness::linked::{
     self, after, assert_writes, assert_written, ends, expected_frames, expected_lines,
-    expected_sheet, file, frames, lines_of, pipe, program, random_record, run, run_in_pieces,
-    said_at_end, sheet, sheet_of, Written, BUDGET, INPUT, IS_FOLDER, NOT_OPEN, NOT_READ, NO_FILE,
-    NO_READER, NO_SPACE, OUTPUT, PASSES, PATIENCE, SIGPIPE,
+    expected_sheet, file, frames, lines_of, pipe, program, quick, random_record, run,
+    run_in_pieces, said_at_end, sheet, sheet_of, Written, BUDGET, INPUT, IS_FOLDER, NOT_OPEN,
+    NOT_READ, NO_FILE, NO_READER, NO_SPACE, OUTPUT, PASSES, PATIENCE, SIGPIPE,
 };
 use uxn_filter_harness::listing::{self, hexadecimal, listing, Listed};
 use uxn_filter_harness::pair::say;
@@ -51,11 +51,6 @@ fn record(node: u8, data: &[u8]) -> [u8; RECORD] {
     record[1] = node;
     record[2..2 + data.len()].copy_from_slice(data);
     record
-}
-
-/// Short, so that the time is that of the reading and the writing.
-fn quick() -> Vec<u8> {
-    assemble("LIT 82 LDZ LIT f2 DEO BRK")
 }
 
 // Arguments
@@ -272,28 +267,6 @@ fn part_records() {
     }
 }
 
-/// Words of a message that stand here alone; the other tests have them from `linked`.
-#[test]
-fn a_part_record_in_words() {
-    let folder = folder("a_part_record_in_words");
-    file(&folder, "passes.rom", &PASSES);
-    file(&folder, "empty.rom", &[]);
-    file(&folder, "records", &[0; 2 * RECORD + 13]);
-    let run = |rom| {
-        let mut command = frames();
-        command.args([rom, "records"]).current_dir(&folder);
-        command
-    };
-    let expected = Written {
-        out: b"pass\npass\n".to_vec(),
-        said: b"records: bytes at the end that are no whole record: 13\n".to_vec(),
-    };
-    assert_writes(&mut run("passes.rom"), &[], &expected);
-    // The records of a refused program are not read.
-    let expected = Written::only_out("refused 5\n");
-    assert_writes(&mut run("empty.rom"), &[], &expected);
-}
-
 #[test]
 fn ten_megabytes_of_records() {
     let folder = folder("ten_megabytes_of_records");
@@ -405,28 +378,31 @@ fn a_line_comes_at_once() {
         .stderr(Stdio::piped())
         .spawn()
         .expect("the program starts");
-    let mut lines = BufReader::new(child.stdout.take().unwrap());
+    let stdout = BufReader::new(child.stdout.take().unwrap());
+    let (send, lines) = mpsc::channel();
+    thread::spawn(move || {
+        for line in stdout.lines() {
+            send.send(line.expect("lines are text")).unwrap();
+        }
+    });
     let mut to = File::options()
         .write(true)
         .open(&records)
         .expect("the pipe opens");
-    for (value, expected) in [(1, "pass\n"), (1, "drop\n"), (2, "pass\n"), (3, "pass\n")] {
+    for (value, expected) in [(1, "pass"), (1, "drop"), (2, "pass"), (3, "pass")] {
         let frame = record(9, &[3, 7, value]);
         // In two pieces: the first alone gives no line.
         let (first, rest) = frame.split_at(20);
         to.write_all(first).expect("the pipe takes it");
         thread::sleep(PAUSE);
         to.write_all(rest).expect("the pipe takes it");
-        let mut line = String::new();
-        lines.read_line(&mut line).expect("a line comes");
+        let line = lines.recv_timeout(PATIENCE).expect("a line comes");
         assert_eq!(line, expected);
     }
     to.write_all(&[0; 20]).expect("the pipe takes it");
     drop(to);
     assert!(ends(&mut child), "frames goes on after its input has ended");
-    let mut left = String::new();
-    lines.read_to_string(&mut left).unwrap();
-    assert_eq!(left, "");
+    assert_eq!(lines.iter().next(), None);
     let said = said_at_end(&PASSES, &records, 4 * RECORD + 20);
     let output = child.wait_with_output().expect("the program has ended");
     assert_written(&output, &Written::only_said(said), "frames");
@@ -474,8 +450,8 @@ fn descriptors_that_are_closed() {
     }
 }
 
-/// Where a message can not be written all else is as ever. The reader of a pipe that has gone is
-/// told by its signal.
+/// Where a message can not be written all else is as ever; a pipe whose reader has gone ends the
+/// program by its signal.
 #[test]
 fn standard_error_that_takes_nothing() {
     let folder = folder("standard_error_that_takes_nothing");
@@ -895,28 +871,37 @@ fn a_script_tells_success() {
     let [shown] = shown[..] else {
         panic!("one command of README.md: {shown:?}");
     };
-    let script = |before: &str, code: &[u8]| {
-        let rom = file(&folder, "program.rom", code);
+    let script = |rom: &Path| {
         let mut command = shown.to_owned();
         for (named, path) in [
-            ("target/bin/sheet", program("sheet")),
+            ("target/bin/sheet", &*program("sheet")),
             ("crates/frames/data/filter.rom", rom),
         ] {
-            let path = format!("'{}'", path.display());
             assert_eq!(command.matches(named).count(), 1, "{shown}");
-            command = command.replace(named, &path);
+            command = command.replace(named, &format!("'{}'", path.display()));
         }
         let mut shell = Command::new("sh");
-        shell.args(["-c", &format!("{before}; {command}")]);
-        let output = run(shell.current_dir(&folder), &[]);
+        let output = run(shell.args(["-c", &command]).current_dir(&folder), &[]);
         String::from_utf8(output.stdout).expect("text")
     };
-    assert_eq!(script("true", &PASSES), "admitted\n");
-    let written = fs::read(folder.join("filter.sheet")).expect("the sheet");
-    assert_eq!(written, PASSES_SHEET);
-    assert_eq!(script("true", &REFUSED), "refused 11\n");
-    // A file that must not have a byte: the signal ends the program before it can say so.
-    assert_eq!(script("ulimit -f 0", &PASSES), "");
+    let written = folder.join("filter.sheet");
+    assert_eq!(script(&file(&folder, "passes.rom", &PASSES)), "admitted\n");
+    assert_eq!(fs::read(&written).expect("the sheet"), PASSES_SHEET);
+    let refused = file(&folder, "refused.rom", &REFUSED);
+    assert_eq!(script(&refused), "refused 11\n");
+    assert_eq!(fs::read(&written).expect("the sheet"), []);
+
+    // A reader that leaves before there is a sheet: the signal ends the program, and nothing is said.
+    fs::remove_file(&written).expect("the file goes");
+    let [rom, written] = ["passes.pipe", "filter.sheet"].map(|name| pipe(&folder, name));
+    let coming = rom.clone();
+    let leaves = thread::spawn(move || {
+        let mut to = File::options().write(true).open(coming)?;
+        drop(File::open(written)?);
+        to.write_all(&PASSES)
+    });
+    assert_eq!(script(&rom), "");
+    leaves.join().unwrap().expect("the program is written");
 }
 
 // Both, under valgrind
