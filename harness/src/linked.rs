@@ -1,15 +1,20 @@
 //! The linked programs `frames` and `sheet`: where they stand, how they are run, and what they
-//! should write, from the second machine and the second admission. They stand in `target/bin`
-//! below the repository's root, or in the folder that UXN_FILTER_BIN names.
+//! should write on standard output and say on standard error, from the second machine and the second
+//! admission. They stand in `target/bin` below the repository's root, or in the folder that
+//! UXN_FILTER_BIN names.
 
-use std::fs;
-use std::io::Write;
+use std::ffi::OsStr;
+use std::fmt::Display;
+use std::fs::{self, File};
+use std::io::{Read, Write};
+use std::os::unix::ffi::OsStrExt;
 use std::path::{Path, PathBuf};
 use std::process::{Child, Command, Output, Stdio};
 use std::thread;
 use std::time::{Duration, Instant};
 
-use crate::calls::{MEMORY, PAGE, RECORD, SHEET_RECORD};
+use crate::assembler::assemble;
+use crate::calls::{ADMITTED, MEMORY, PAGE, PROGRAM_LIMIT, RECORD, SHEET_RECORD};
 use crate::compiled::repository;
 use crate::random::Random;
 use crate::second::{self, Answer, Parts, Record};
@@ -20,8 +25,29 @@ pub const BUDGET: u32 = 10_000;
 /// A program that should have ended by then hangs.
 pub const PATIENCE: Duration = Duration::from_secs(20);
 
+/// Why a call of the system failed, in the C library's words.
+pub const NO_FILE: &str = "No such file or directory";
+pub const IS_FOLDER: &str = "Is a directory";
+pub const NOT_READ: &str = "Input/output error";
+pub const NOT_OPEN: &str = "Bad file descriptor";
+pub const NO_SPACE: &str = "No space left on device";
+pub const NO_READER: &str = "Broken pipe";
+
+/// What is named where standard input or standard output fails.
+pub const INPUT: &str = "standard input";
+pub const OUTPUT: &str = "standard output";
+
+/// The number of the signal of a closed pipe.
+pub const SIGPIPE: i32 = 13;
+
 /// `80 01 80 F2 17 00`: passes every frame.
 pub const PASSES: [u8; 6] = [0x80, 0x01, 0x80, 0xf2, 0x17, 0x00];
+
+/// Passes a frame whose first data byte is not 0, in few steps: what takes time is the reading and
+/// the writing.
+pub fn quick() -> Vec<u8> {
+    assemble("LIT 82 LDZ LIT f2 DEO BRK")
+}
 
 // Programs and files
 
@@ -135,18 +161,97 @@ pub fn feed(mut to: impl Write, input: &[u8], mut next: impl FnMut() -> (usize, 
     }
 }
 
-/// What `frames` writes for two files; it has nothing to say on standard error.
+/// What `frames` writes for two files; on standard error it says what is due, and nothing else.
 pub fn lines_of(program: &Path, records: &Path) -> String {
     let output = run(frames().arg(program).arg(records), &[]);
-    assert_eq!(String::from_utf8_lossy(&output.stderr), "");
+    let mut code = Vec::new();
+    // No more is read than tells whether it is refused.
+    File::open(program)
+        .and_then(|file| file.take(PROGRAM_LIMIT as u64 + 1).read_to_end(&mut code))
+        .expect("the program is read");
+    let length = fs::metadata(records).expect("the records").len();
+    let said = said_at_end(&code, records, length as usize);
+    assert_said(&output, &said, "frames");
     String::from_utf8(output.stdout).expect("lines are text")
 }
 
-/// What `sheet` writes for a program; it has nothing to say on standard error.
+/// What `sheet` writes for a program; on standard error it says what is due, and nothing else.
 pub fn sheet_of(program: &[u8]) -> Vec<u8> {
     let output = run(&mut sheet(), program);
-    assert_eq!(String::from_utf8_lossy(&output.stderr), "");
+    assert_said(&output, &expected_sheet(program).said, "sheet");
     output.stdout
+}
+
+// What they write
+
+/// What a run writes on standard output and says on standard error.
+pub struct Written {
+    pub out: Vec<u8>,
+    pub said: Vec<u8>,
+}
+
+impl Written {
+    /// Nothing on standard error.
+    pub fn only_out(out: impl Into<Vec<u8>>) -> Written {
+        let (out, said) = (out.into(), Vec::new());
+        Written { out, said }
+    }
+
+    /// Nothing on standard output.
+    pub fn only_said(said: impl Into<Vec<u8>>) -> Written {
+        let (out, said) = (Vec::new(), said.into());
+        Written { out, said }
+    }
+
+    /// The message of a call of the system that failed, and nothing else: what it was for, and the
+    /// reason in the C library's words.
+    pub fn failed(what: impl AsRef<OsStr>, reason: &str) -> Written {
+        let what = what.as_ref().as_bytes();
+        Written::only_said([what, b": ", reason.as_bytes(), b"\n"].concat())
+    }
+}
+
+/// Whether the bytes that came `from` there are those expected, or where they begin to differ.
+pub fn same(from: &str, found: &[u8], expected: &[u8]) -> Result<(), String> {
+    if found == expected {
+        return Ok(());
+    }
+    let pairs = found.iter().zip(expected);
+    let at = pairs.take_while(|(one, other)| one == other).count();
+    let some = |bytes: &[u8]| {
+        bytes[at..bytes.len().min(at + 80)]
+            .escape_ascii()
+            .to_string()
+    };
+    Err(format!(
+        "{from} has {} bytes and should have {}; from byte {at} on it has \"{}\" and should have \"{}\"",
+        found.len(),
+        expected.len(),
+        some(found),
+        some(expected)
+    ))
+}
+
+/// The run ended by itself, with status 0 as always, and said this on standard error.
+fn assert_said(output: &Output, said: &[u8], what: impl Display) {
+    if let Err(difference) = same("standard error", &output.stderr, said) {
+        panic!("{what}: {difference}");
+    }
+    assert_eq!(output.status.code(), Some(0), "{what}: {}", output.status);
+}
+
+/// The same, and this is what it wrote.
+pub fn assert_written(output: &Output, expected: &Written, what: impl Display) {
+    if let Err(difference) = same(OUTPUT, &output.stdout, &expected.out) {
+        panic!("{what}: {difference}");
+    }
+    assert_said(output, &expected.said, what);
+}
+
+/// A run with the whole of standard input there from the start writes this.
+pub fn assert_writes(command: &mut Command, input: &[u8], expected: &Written) {
+    let output = run(command, input);
+    assert_written(&output, expected, format_args!("{command:?}"));
 }
 
 // What they should write
@@ -161,8 +266,8 @@ fn line(reply: &second::Reply) -> String {
     }
 }
 
-/// The lines of `frames`, from the second machine.
-pub fn expected(program: &[u8], records: &[u8]) -> String {
+/// A fresh second machine with the program loaded, or refused.
+fn loaded(program: &[u8]) -> (second::Reply, Parts) {
     let mut parts = Parts {
         memory: vec![0; MEMORY],
         device_page: vec![0; PAGE],
@@ -174,7 +279,12 @@ pub fn expected(program: &[u8], records: &[u8]) -> String {
         working_pointer: 0,
         return_pointer: 0,
     };
-    let loaded = second::load(fresh, &mut parts, program);
+    (second::load(fresh, &mut parts, program), parts)
+}
+
+/// The lines of `frames`, from the second machine.
+pub fn expected_lines(program: &[u8], records: &[u8]) -> String {
+    let (loaded, mut parts) = loaded(program);
     if loaded.answer != Answer::Loaded {
         return line(&loaded);
     }
@@ -188,13 +298,32 @@ pub fn expected(program: &[u8], records: &[u8]) -> String {
     lines
 }
 
-/// The bytes of `sheet`, from the second admission.
-pub fn expected_sheet(program: &[u8]) -> Vec<u8> {
-    let mut sheet = vec![0; SHEET_RECORD * program.len()];
-    if second_admission::admit(program, &mut sheet) != 0 {
-        sheet.clear();
+/// What `frames` says when so many bytes of records have come to their end. Those of a program that
+/// is refused are not read.
+pub fn said_at_end(program: &[u8], records: &Path, length: usize) -> Vec<u8> {
+    let rest = length % RECORD;
+    if rest == 0 || loaded(program).0.answer != Answer::Loaded {
+        return Vec::new();
     }
-    sheet
+    let counted = format!(": bytes at the end that are no whole record: {rest}\n");
+    [records.as_os_str().as_bytes(), counted.as_bytes()].concat()
+}
+
+/// The lines of `frames` and what it says, for records that are under this name.
+pub fn expected_frames(program: &[u8], records: &[u8], name: impl AsRef<Path>) -> Written {
+    Written {
+        out: expected_lines(program, records).into_bytes(),
+        said: said_at_end(program, name.as_ref(), records.len()),
+    }
+}
+
+/// The bytes of `sheet` and what it says, from the second admission.
+pub fn expected_sheet(program: &[u8]) -> Written {
+    let mut sheet = vec![0; SHEET_RECORD * program.len()];
+    match second_admission::admit(program, &mut sheet) {
+        ADMITTED => Written::only_out(sheet),
+        number => Written::only_said(format!("refused {number}\n")),
+    }
 }
 
 /// Good records of every length, and records of wrong form.

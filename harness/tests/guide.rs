@@ -6,7 +6,7 @@
 //! - `verdicts`: short programs, each with its line for a frame of zeros, and its instructions;
 //! - `sheet`: a sheet, a record on each line;
 //! - `refused NAME`: listings under `refused NUMBER`, and one under `admitted`;
-//! - `console`: commands after `$`, and what they write.
+//! - `console`: commands after `$`, and what they write and say.
 
 use std::collections::BTreeSet;
 use std::path::PathBuf;
@@ -18,7 +18,9 @@ use uxn_filter_harness::calls::{
     ADMITTED, ADMIT_LIMIT, LOADED, PROGRAM_LIMIT, PROGRAM_START, RECORD, REFUSED, SHEET_RECORD,
 };
 use uxn_filter_harness::filters::forbidden_bytes;
-use uxn_filter_harness::linked::{self, expected, file, lines_of, program, run, sheet_of, BUDGET};
+use uxn_filter_harness::linked::{
+    self, assert_writes, expected_lines, file, lines_of, program, sheet, sheet_of, Written, BUDGET,
+};
 use uxn_filter_harness::listing::{self, hexadecimal, listing, Listed};
 use uxn_filter_harness::opcodes::BRK;
 use uxn_filter_harness::page::{self, cells, Block};
@@ -112,9 +114,11 @@ fn assert_admitted_with(name: &str, code: &[u8], sheet: &[u8]) {
     assert_eq!(sheet_of(code), sheet, "{name}: what `sheet` writes");
 }
 
-fn assert_refused(name: &str, code: &[u8], number: u8) {
+/// The head of a refused program is what `sheet` says.
+fn assert_refused(name: &str, code: &[u8], head: &str, number: u8) {
     assert_eq!(Admissions::new(0).admit(code), number, "{name}");
-    assert_eq!(sheet_of(code), [], "{name}: what `sheet` writes");
+    let expected = Written::only_said(format!("{head}\n"));
+    assert_writes(&mut sheet(), code, &expected);
 }
 
 /// The line that `frames` writes for each record, and the second machine; demand 3 is watched.
@@ -125,7 +129,11 @@ fn assert_lines(name: &str, code: &[u8], records: &[[u8; RECORD]], lines: &str) 
     let bytes = records.as_flattened();
     let written = lines_of(&rom, &file(&folder, "records.bin", bytes));
     assert_eq!(written, lines, "{name}: what `frames` writes");
-    assert_eq!(expected(code, bytes), lines, "{name}: the second machine");
+    assert_eq!(
+        expected_lines(code, bytes),
+        lines,
+        "{name}: the second machine"
+    );
 
     let mut pair = Pair::new(0);
     assert_eq!(pair.load(code).answer, LOADED);
@@ -313,13 +321,13 @@ fn refused_programs_and_the_same_mended() {
             let number = head.strip_prefix("refused ").expect(head);
             let number = number.parse().expect("a number");
             let code = listing::code(lines);
-            assert_refused(&name, &code, number);
+            assert_refused(&name, &code, head, number);
             if number == NOT_ADMITTED {
                 assert_fault(&name, lines);
             }
             if number == 5 {
                 let rom = file(&folder, "program.rom", &code);
-                assert_eq!(lines_of(&rom, &records), "refused 5\n");
+                assert_eq!(lines_of(&rom, &records), format!("{head}\n"));
             }
             refused += 1;
         }
@@ -508,15 +516,11 @@ fn the_commands_write_what_is_said() {
         let (commands, said): (Vec<&str>, Vec<&str>) =
             text.lines().partition(|line| line.starts_with("$ "));
         let commands: Vec<&str> = commands.iter().map(|command| &command[2..]).collect();
+        // As a terminal shows them, lines and messages come in one.
         let mut shell = Command::new("sh");
-        shell.args(["-e", "-c", &commands.join("\n")]);
-        let output = run(
-            shell.env("PATH", &path).current_dir(folder("commands")),
-            &[],
-        );
-        assert_eq!(String::from_utf8_lossy(&output.stderr), "");
-        let written = String::from_utf8_lossy(&output.stdout);
-        assert_eq!(written.lines().collect::<Vec<_>>(), said);
-        assert!(output.status.success());
+        shell.args(["-e", "-c", &format!("exec 2>&1\n{}", commands.join("\n"))]);
+        shell.env("PATH", &path).current_dir(folder("commands"));
+        let shown: String = said.iter().map(|line| format!("{line}\n")).collect();
+        assert_writes(&mut shell, &[], &Written::only_out(shown));
     }
 }

@@ -1,8 +1,8 @@
 //! A soak of the linked programs `frames` and `sheet`: programs and record files of every kind and
 //! length, as files, pipes and standard input, in pieces and with pauses; readers that are slow or
 //! leave, full devices, files that can not be read. Each run has to end in time, to write what the
-//! second machine or the second admission says, and to have nothing to say on standard error unless
-//! something is wrong. SOAK gives its minutes; without it the soak is a few seconds long.
+//! second machine or the second admission says, and to say on standard error just what is due. SOAK
+//! gives its minutes; without it the soak is a few seconds long.
 
 use std::fmt::{self, Debug, Formatter};
 use std::fs::{self, File};
@@ -20,14 +20,16 @@ use uxn_filter_harness::assembler::assemble;
 use uxn_filter_harness::calls::{ADMIT_LIMIT, PROGRAM_LIMIT, RECORD};
 use uxn_filter_harness::filters::{any, any_length, filter};
 use uxn_filter_harness::linked::{
-    self, after, ends, expected, expected_sheet, feed, file, frames, pipe, random_record, sheet,
+    self, after, ends, expected_lines, expected_sheet, feed, file, frames, pipe, quick,
+    random_record, said_at_end, same, sheet, Written, INPUT, IS_FOLDER, NOT_READ, NO_FILE,
+    NO_READER, NO_SPACE, OUTPUT, SIGPIPE,
 };
 use uxn_filter_harness::programs::{either, random_bytes};
 use uxn_filter_harness::random::Random;
 use uxn_filter_harness::soak::rounds;
 
-/// The number of the signal of a closed pipe.
-const SIGPIPE: i32 = 13;
+/// A pipe that nobody reads from takes no more than so many bytes.
+const PIPE: usize = 65_536;
 /// One round in so many has a record file of tens of megabytes.
 const HUGE: usize = 150;
 const IGNORE_SIGNAL: &str = "trap '' PIPE";
@@ -38,6 +40,7 @@ struct Total {
     frames: u64,
     lines: u64,
     records: u64,
+    parts: u64,
     sheets: u64,
     admitted: u64,
     wrong: u64,
@@ -53,6 +56,7 @@ impl Total {
             frames,
             lines,
             records,
+            parts,
             sheets,
             admitted,
             wrong,
@@ -63,7 +67,8 @@ impl Total {
         } = self;
         let megabytes = records / 1_000_000;
         format!(
-            "{frames} runs of frames with {lines} lines from {megabytes} MB of records ({huge} huge files), \
+            "{frames} runs of frames with {lines} lines from {megabytes} MB of records ({huge} huge files, \
+             {parts} with a part record at the end), \
              {sheets} runs of sheet with {admitted} admitted, {wrong} with something that can not be read, \
              {left} with a reader that left, {full} on a full device, {stopped} stopped for a while"
         )
@@ -179,15 +184,15 @@ struct Run {
 }
 
 struct Ran {
-    out: Vec<u8>,
-    said: String,
+    written: Written,
     status: ExitStatus,
 }
 
-/// What the program should write, and the start of its message where something is wrong.
+/// What the program should write where the output takes all of it.
 struct Expected {
-    out: Vec<u8>,
-    message: Option<String>,
+    written: Written,
+    /// The records have no end, and `written` has the first lines of them.
+    endless: bool,
 }
 
 fn written(fed: Fed, to: impl Write + Send + 'static) -> JoinHandle<()> {
@@ -319,71 +324,48 @@ impl Run {
         }
         let said = said.join().expect("standard error is read");
         Ok(Ran {
-            out,
-            said: String::from_utf8_lossy(&said).into_owned(),
+            written: Written { out, said },
             status: child.wait().expect("the program has ended"),
         })
     }
 }
 
-/// A difference of two outputs, in words.
-fn same(out: &[u8], expected: &[u8]) -> Result<(), String> {
-    if out == expected {
-        return Ok(());
-    }
-    let at = out.iter().zip(expected).take_while(|(a, b)| a == b).count();
-    Err(format!(
-        "{} bytes are written and {} expected; they differ from byte {at} on",
-        out.len(),
-        expected.len()
-    ))
-}
-
-fn message(said: &str, start: Option<&str>) -> Result<(), String> {
-    let good = match start {
-        None => said.is_empty(),
-        Some(start) => said.starts_with(start) && said.ends_with('\n') && said.lines().count() == 1,
-    };
-    if good {
-        return Ok(());
-    }
-    Err(format!(
-        "standard error has {said:?} and should have {start:?}"
-    ))
-}
-
 impl Ran {
+    /// It ended by itself, and said this.
+    fn said(&self, said: &[u8]) -> Result<(), String> {
+        same("standard error", &self.written.said, said)?;
+        match self.status.code() {
+            Some(0) => Ok(()),
+            _ => Err(format!("it ended with {}", self.status)),
+        }
+    }
+
+    /// Where the output fails, that is the one message, or the signal ends the program without one:
+    /// what else is said comes after all that is written.
     fn check(&self, expected: &Expected, sink: Sink) -> Result<(), String> {
-        let Expected { out, message: why } = expected;
-        let ended = self.status.code() == Some(0);
-        let hold = |held: bool| match held {
-            true => Ok(()),
-            false => Err(format!("it ended with {}", self.status)),
-        };
+        let Expected { written, endless } = expected;
+        let Written { out, said } = written;
+        let unwritten = |reason| self.said(&Written::failed(OUTPUT, reason).said);
         match sink {
             Sink::Leaves(bytes) | Sink::LeavesUnheard(bytes) if bytes < out.len() => {
-                same(&self.out, &out[..bytes])?;
-                match sink {
-                    Sink::Leaves(_) => {
-                        message(&self.said, None)?;
-                        hold(ended || self.status.signal() == Some(SIGPIPE))
+                same(OUTPUT, &self.written.out, &out[..bytes])?;
+                let failed = match sink {
+                    Sink::Leaves(_) if self.status.signal() == Some(SIGPIPE) => {
+                        same("standard error", &self.written.said, &[])
                     }
-                    // All may have been written before the reader left.
-                    _ => {
-                        message(&self.said, None)
-                            .or_else(|_| message(&self.said, Some("standard output: ")))?;
-                        hold(ended)
-                    }
+                    Sink::Leaves(_) => Err(format!("it ended with {}", self.status)),
+                    _ => unwritten(NO_READER),
+                };
+                // All may have been written before the reader left.
+                match !endless && out.len() - bytes <= PIPE {
+                    true => failed.or_else(|_| self.said(said)),
+                    false => failed,
                 }
             }
-            Sink::Full if !out.is_empty() => {
-                message(&self.said, Some("standard output: "))?;
-                hold(ended)
-            }
+            Sink::Full if !out.is_empty() => unwritten(NO_SPACE),
             _ => {
-                same(&self.out, out)?;
-                message(&self.said, why.as_deref())?;
-                hold(ended)
+                same(OUTPUT, &self.written.out, out)?;
+                self.said(said)
             }
         }
     }
@@ -393,13 +375,11 @@ impl Ran {
 fn compare(seed: u64, folder: &Path, run: Run, expected: &Expected, total: &mut Total) {
     let sink = run.sink;
     let shown = format!("{run:?}");
-    total.wrong += u64::from(expected.message.is_some());
+    let out = expected.written.out.len();
     total.stopped += u64::from(run.stopped);
     match sink {
-        Sink::Leaves(bytes) | Sink::LeavesUnheard(bytes) => {
-            total.left += u64::from(bytes < expected.out.len());
-        }
-        Sink::Full => total.full += u64::from(!expected.out.is_empty()),
+        Sink::Leaves(bytes) | Sink::LeavesUnheard(bytes) => total.left += u64::from(bytes < out),
+        Sink::Full => total.full += u64::from(out > 0),
         _ => {}
     }
     let checked = run.run(folder).and_then(|ran| ran.check(expected, sink));
@@ -409,11 +389,6 @@ fn compare(seed: u64, folder: &Path, run: Run, expected: &Expected, total: &mut 
 }
 
 // frames
-
-/// Passes a frame whose first data byte is not 0, in few steps.
-fn quick() -> Vec<u8> {
-    assemble("LIT 82 LDZ LIT f2 DEO BRK")
-}
 
 /// A program of every kind, and whether it takes few steps.
 fn any_program(random: &mut Random) -> (Vec<u8>, bool) {
@@ -463,7 +438,8 @@ fn records(random: &mut Random, count: usize) -> Vec<u8> {
     for _ in 0..count {
         bytes.extend(random_record(random));
     }
-    let tail = random.choose(&[0, 1, 63, 20]);
+    let any = random.below(RECORD);
+    let tail = random.choose(&[0, 1, RECORD - 1, any]);
     bytes.extend(vec![1; tail]);
     bytes
 }
@@ -485,13 +461,17 @@ fn placed(random: &mut Random, folder: &Path, name: &str, bytes: &[u8], run: &mu
     }
 }
 
-/// A path that can not be opened, or not be read.
-fn unreadable(random: &mut Random, folder: &Path) -> (PathBuf, bool) {
+/// A path that can not be opened, or not be read, and why.
+fn unreadable(random: &mut Random, folder: &Path) -> (PathBuf, &'static str, bool) {
     match random.below(4) {
-        0 => (folder.join("missing"), false),
-        1 => (folder.join("loop"), false),
-        2 => (folder.to_owned(), true),
-        _ => (PathBuf::from("/proc/self/mem"), true),
+        0 => (folder.join("missing"), NO_FILE, false),
+        1 => (
+            folder.join("loop"),
+            "Too many levels of symbolic links",
+            false,
+        ),
+        2 => (folder.to_owned(), IS_FOLDER, true),
+        _ => (PathBuf::from("/proc/self/mem"), NOT_READ, true),
     }
 }
 
@@ -513,7 +493,7 @@ fn frames_run(seed: u64, folder: &Path, total: &mut Total, huge: bool) {
     if endless {
         bytes = vec![0; RECORD * 1_000];
     }
-    let mut out = expected(&code, &bytes).into_bytes();
+    let out = expected_lines(&code, &bytes).into_bytes();
     let mut sink = Sink::any(random, out.len());
     if endless {
         sink = match random.below(3) {
@@ -534,28 +514,32 @@ fn frames_run(seed: u64, folder: &Path, total: &mut Total, huge: bool) {
         true => PathBuf::from("/dev/zero"),
         false => placed(random, folder, "records", &bytes, &mut run),
     };
-    let mut why = None;
+    let mut wrong = None;
     if !endless && !huge && random.one_in(8) {
-        let (path, opens) = unreadable(random, folder);
-        let named = format!("{}: ", path.display());
+        let (path, reason, opens) = unreadable(random, folder);
+        let failed = Written::failed(&path, reason);
         let refused = code.is_empty() || code.len() > PROGRAM_LIMIT;
         if random.one_in(2) {
             program_path = path;
-            (out, why) = (Vec::new(), Some(named));
+            wrong = Some(failed);
         } else {
             records_path = path;
             // The records of a refused program are not read.
-            if !(opens && refused) {
-                (out, why) = (Vec::new(), Some(named));
-            }
+            wrong = (!(opens && refused)).then_some(failed);
         }
     }
+    total.wrong += u64::from(wrong.is_some());
+    let written = wrong.unwrap_or_else(|| {
+        let said = said_at_end(&code, &records_path, bytes.len());
+        total.parts += u64::from(!said.is_empty());
+        Written { out, said }
+    });
     run.command.arg(program_path).arg(records_path);
     total.frames += 1;
     total.huge += u64::from(huge);
     total.records += bytes.len() as u64;
-    total.lines += out.iter().filter(|byte| **byte == b'\n').count() as u64;
-    let expected = Expected { out, message: why };
+    total.lines += written.out.iter().filter(|byte| **byte == b'\n').count() as u64;
+    let expected = Expected { written, endless };
     compare(seed, folder, run, &expected, total);
 }
 
@@ -575,24 +559,27 @@ fn sheet_run(seed: u64, folder: &Path, total: &mut Total) {
             any(random, turn, length)
         }
     };
-    let mut out = expected_sheet(&code);
-    let mut why = None;
+    let mut wrong = None;
     let input = match random.below(10) {
         0..=4 => Input::Pipe(Fed::new(random, &code)),
         5 => Input::Socket(Fed::new(random, &code)),
         6 => {
             // A read that fails, after some that did not.
             let some = random.below(code.len().min(ADMIT_LIMIT) + 1);
-            (out, why) = (Vec::new(), Some("standard input: ".to_owned()));
+            wrong = Some("Connection reset by peer");
             Input::Broken(Fed::new(random, &code[..some]))
         }
         7 if random.one_in(2) => {
-            (out, why) = (Vec::new(), Some("standard input: ".to_owned()));
+            wrong = Some(IS_FOLDER);
             Input::Open(folder.to_owned())
         }
         _ => Input::Open(file(folder, "program", &code)),
     };
-    let sink = Sink::any(random, out.len());
+    let written = match wrong {
+        Some(reason) => Written::failed(INPUT, reason),
+        None => expected_sheet(&code),
+    };
+    let sink = Sink::any(random, written.out.len());
     let run = Run {
         command: sink.command("sheet"),
         input,
@@ -601,8 +588,12 @@ fn sheet_run(seed: u64, folder: &Path, total: &mut Total) {
         stopped: random.one_in(16),
     };
     total.sheets += 1;
-    total.admitted += u64::from(!out.is_empty());
-    let expected = Expected { out, message: why };
+    total.admitted += u64::from(!written.out.is_empty());
+    total.wrong += u64::from(wrong.is_some());
+    let expected = Expected {
+        written,
+        endless: false,
+    };
     compare(seed, folder, run, &expected, total);
 }
 

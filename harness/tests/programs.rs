@@ -1,25 +1,28 @@
-//! The linked programs `frames` and `sheet`: arguments, files and pipes of every kind, their lines
-//! and sheets beside the second machine and the second admission, the example, and valgrind.
+//! The linked programs `frames` and `sheet`: arguments, files and pipes of every kind, their lines,
+//! sheets and messages beside the second machine and the second admission, the example, and valgrind.
 
 use std::ffi::OsStr;
 use std::fs::{self, File};
-use std::io::{BufRead, BufReader, Read, Write};
+use std::io::{self, BufRead, BufReader, Read, Write};
 use std::os::fd::OwnedFd;
 use std::os::unix::ffi::OsStrExt;
 use std::os::unix::net::UnixStream;
+use std::os::unix::process::ExitStatusExt;
 use std::path::{Path, PathBuf};
-use std::process::{Command, Output, Stdio};
-use std::sync::Mutex;
+use std::process::{Command, Stdio};
+use std::sync::{mpsc, Mutex};
 use std::thread;
 use std::time::{Duration, Instant};
 
 use uxn_filter_harness::assembler::assemble;
 use uxn_filter_harness::calls::{ADMIT_LIMIT, PROGRAM_LIMIT, RECORD};
-use uxn_filter_harness::compiled::repository;
+use uxn_filter_harness::compiled::{printed, repository};
 use uxn_filter_harness::filters::{any, any_length};
 use uxn_filter_harness::linked::{
-    self, after, ends, expected, expected_sheet, file, frames, lines_of, pipe, program,
-    random_record, run, run_in_pieces, sheet, sheet_of, PASSES, PATIENCE,
+    self, after, assert_writes, assert_written, ends, expected_frames, expected_lines,
+    expected_sheet, file, frames, lines_of, pipe, program, quick, random_record, run,
+    run_in_pieces, said_at_end, sheet, sheet_of, Written, BUDGET, INPUT, IS_FOLDER, NOT_OPEN,
+    NOT_READ, NO_FILE, NO_READER, NO_SPACE, OUTPUT, PASSES, PATIENCE, SIGPIPE,
 };
 use uxn_filter_harness::listing::{self, hexadecimal, listing, Listed};
 use uxn_filter_harness::pair::say;
@@ -28,6 +31,9 @@ use uxn_filter_harness::random::{seed, Random};
 
 /// Between pieces of input.
 const PAUSE: Duration = Duration::from_millis(5);
+
+/// A name of standard input.
+const STDIN: &str = "/dev/stdin";
 
 /// A file of the repository's example.
 fn example(name: &str) -> PathBuf {
@@ -39,28 +45,6 @@ fn folder(test: &str) -> PathBuf {
     linked::folder(env!("CARGO_TARGET_TMPDIR"), test)
 }
 
-/// Nothing on standard output, one line on standard error that has this in it.
-fn assert_only_complains(output: &Output, words: &str) {
-    let said = String::from_utf8_lossy(&output.stderr);
-    assert_eq!(String::from_utf8_lossy(&output.stdout), "", "{said}");
-    assert!(said.contains(words), "{said:?} has no {words:?}");
-    assert!(
-        said.ends_with('\n') && said.lines().count() == 1,
-        "{said:?}"
-    );
-}
-
-/// How the program is called, and what it does.
-fn assert_only_helps(output: &Output, usage: &str) {
-    let said = String::from_utf8_lossy(&output.stderr);
-    assert_eq!(String::from_utf8_lossy(&output.stdout), "", "{said}");
-    assert_eq!(said.lines().next(), Some(usage));
-    assert!(
-        said.ends_with('\n') && said.lines().count() == 3,
-        "{said:?}"
-    );
-}
-
 fn record(node: u8, data: &[u8]) -> [u8; RECORD] {
     let mut record = [0; RECORD];
     record[0] = data.len() as u8;
@@ -69,43 +53,92 @@ fn record(node: u8, data: &[u8]) -> [u8; RECORD] {
     record
 }
 
-// frames: arguments and files
+// Arguments
 
-#[test]
-fn frames_wants_two_arguments() {
-    let filter = example("filter.rom");
-    let records = example("records.bin");
-    for arguments in [
-        vec![],
-        vec![&filter],
-        vec![&filter, &records, &records],
-        vec![&filter; 9],
-    ] {
-        let output = run(frames().args(&arguments), &[]);
-        assert_only_helps(&output, "usage: frames PROGRAM RECORDS");
-    }
+/// How the program is called and what it does, as it says when it is asked.
+fn usage(name: &str) -> String {
+    let output = run(Command::new(program(name)).arg("--help"), &PASSES);
+    let text = String::from_utf8(output.stdout.clone()).expect("the usage is text");
+    assert_written(&output, &Written::only_out(&*text), name);
+    text
+}
+
+/// The numbers in a text; thousands have a comma.
+fn numbers(text: &str) -> Vec<usize> {
+    text.split(|sign: char| !sign.is_ascii_digit() && sign != ',')
+        .map(|number| number.replace(',', ""))
+        .filter(|number| !number.is_empty())
+        .map(|number| number.parse().expect("a number"))
+        .collect()
 }
 
 #[test]
+fn help() {
+    let of_frames = [RECORD, BUDGET as usize, 5, PROGRAM_LIMIT, 8, RECORD - 2, 0];
+    let of_sheet = [5, 9, ADMIT_LIMIT, 11];
+    for (name, first, said) in [
+        ("frames", "usage: frames PROGRAM RECORDS", &of_frames[..]),
+        ("sheet", "usage: sheet < PROGRAM > SHEET", &of_sheet[..]),
+    ] {
+        let text = usage(name);
+        assert_eq!(text.lines().next(), Some(first));
+        assert!(text.ends_with('\n'), "{text:?}");
+        assert_eq!(numbers(&text), said, "{text}");
+    }
+}
+
+/// One argument that is not just `--help`, and wrong numbers of arguments.
+#[test]
+fn wrong_arguments() {
+    let help = || "--help".to_owned();
+    let mut words: Vec<String> = [
+        "", "-", "-h", "help", "--hel", "--helpx", " --help", "x.rom",
+    ]
+    .map(str::to_owned)
+    .to_vec();
+    words.push(help() + &"x".repeat(5_000));
+    for place in 0..help().len() {
+        let mut word = help();
+        word.replace_range(place..=place, "x");
+        words.push(word);
+    }
+    let mut lists: Vec<Vec<String>> = words.into_iter().map(|word| vec![word]).collect();
+    for count in [3, 9] {
+        lists.push(vec![example("filter.rom").display().to_string(); count]);
+        lists.push(vec![help(); count]);
+    }
+    for (name, other) in [("frames", Vec::new()), ("sheet", vec![help(); 2])] {
+        let expected = Written::only_said(usage(name));
+        for arguments in lists.iter().chain([&other]) {
+            let mut command = Command::new(program(name));
+            assert_writes(command.args(arguments), &PASSES, &expected);
+        }
+    }
+}
+
+// frames: files
+
+#[test]
 fn frames_says_what_it_can_not_read() {
+    const TOO_LONG: &str = "File name too long";
     let folder = folder("frames_says_what_it_can_not_read");
     let passes = file(&folder, "passes.rom", &PASSES);
-    let records = file(&folder, "records.bin", &record(1, &[]));
+    let records = file(&folder, "records.bin", &[0; RECORD + 1]);
     let missing = folder.join("missing");
     let empty_name = PathBuf::new();
     let long_name = PathBuf::from("x".repeat(5_000));
-    for (program, records, words) in [
-        (&missing, &records, "missing: "),
-        (&passes, &missing, "missing: "),
-        (&folder, &records, "frames_says_what_it_can_not_read: "),
-        (&passes, &folder, "frames_says_what_it_can_not_read: "),
-        (&empty_name, &records, ": "),
-        (&passes, &empty_name, ": "),
-        (&long_name, &records, "PROGRAM: "),
-        (&passes, &long_name, "RECORDS: "),
+    for (program, records, what, reason) in [
+        (&missing, &records, missing.as_os_str(), NO_FILE),
+        (&passes, &missing, missing.as_os_str(), NO_FILE),
+        (&folder, &records, folder.as_os_str(), IS_FOLDER),
+        (&passes, &folder, folder.as_os_str(), IS_FOLDER),
+        (&empty_name, &records, OsStr::new(""), NO_FILE),
+        (&passes, &empty_name, OsStr::new(""), NO_FILE),
+        (&long_name, &records, OsStr::new("PROGRAM"), TOO_LONG),
+        (&passes, &long_name, OsStr::new("RECORDS"), TOO_LONG),
     ] {
-        let output = run(frames().arg(program).arg(records), &[]);
-        assert_only_complains(&output, words);
+        let expected = Written::failed(what, reason);
+        assert_writes(frames().arg(program).arg(records), &[], &expected);
     }
 
     // Where the file can be read all the same, as by root, there is nothing to see.
@@ -113,8 +146,8 @@ fn frames_says_what_it_can_not_read() {
     let chmod = Command::new("chmod").arg("000").arg(&locked).status();
     assert!(chmod.expect("chmod runs").success());
     if File::open(&locked).is_err() {
-        let output = run(frames().arg(&locked).arg(&records), &[]);
-        assert_only_complains(&output, "locked: ");
+        let expected = Written::failed(&locked, "Permission denied");
+        assert_writes(frames().arg(&locked).arg(&records), &[], &expected);
     }
 }
 
@@ -123,8 +156,9 @@ fn frames_says_what_it_can_not_read() {
 fn a_refused_program_and_records_that_are_missing() {
     let folder = folder("a_refused_program_and_records_that_are_missing");
     let empty = file(&folder, "empty.rom", &[]);
-    let output = run(frames().arg(&empty).arg(folder.join("missing")), &[]);
-    assert_only_complains(&output, "missing: ");
+    let missing = folder.join("missing");
+    let expected = Written::failed(&missing, NO_FILE);
+    assert_writes(frames().arg(&empty).arg(&missing), &[], &expected);
 }
 
 #[test]
@@ -133,7 +167,7 @@ fn lengths_of_programs() {
     let records = file(
         &folder,
         "records.bin",
-        &[record(1, &[7]), record(2, &[])].concat(),
+        &[&record(1, &[7])[..], &record(2, &[]), &[0; 9]].concat(),
     );
     let none = file(&folder, "none.bin", &[]);
     for (length, taken) in [
@@ -189,15 +223,47 @@ fn the_longest_program_is_loaded_whole() {
 fn lengths_of_record_files() {
     let folder = folder("lengths_of_record_files");
     let passes = file(&folder, "passes.rom", &PASSES);
-    for length in [
-        0, 1, 63, 64, 65, 127, 128, 129, 65_535, 65_536, 65_537, 65_599, 65_600, 131_072, 200_000,
-    ] {
+    for length in [65_535, 65_536, 65_537, 65_599, 65_600, 131_072, 200_000] {
         let records = file(&folder, "records.bin", &vec![0; length]);
         assert_eq!(
             lines_of(&passes, &records),
             "pass\n".repeat(length / RECORD),
             "length {length}"
         );
+    }
+}
+
+/// A part record of every length that it can have, 0 too, after no record, some, and a whole block.
+#[test]
+fn part_records() {
+    let folder = folder("part_records");
+    let filter = quick();
+    let rom = file(&folder, "filter.rom", &filter);
+    let mut random = Random::new(seed());
+    let whole: Vec<u8> = (0..1_024)
+        .flat_map(|_| random_record(&mut random))
+        .collect();
+    for length in 0..RECORD {
+        let mut part = vec![0; length];
+        random.fill(&mut part);
+        for count in [0, 1, 3, 1_024] {
+            let bytes = [&whole[..RECORD * count], &part].concat();
+            let records = file(&folder, "records.bin", &bytes);
+            let expected = expected_frames(&filter, &bytes, &records);
+            assert_writes(frames().arg(&rom).arg(&records), &[], &expected);
+        }
+        let bytes = [&whole[..RECORD * 2], &part].concat();
+        let expected = expected_frames(&filter, &bytes, STDIN);
+        for piece in [1 + length, 50] {
+            let mut command = frames();
+            command.arg(&rom).arg(STDIN);
+            let output = run_in_pieces(&mut command, &bytes, piece, Duration::from_micros(200));
+            assert_written(
+                &output,
+                &expected,
+                format_args!("{length} in pieces of {piece}"),
+            );
+        }
     }
 }
 
@@ -211,15 +277,14 @@ fn ten_megabytes_of_records() {
     }
     bytes.extend([0; 63]);
     let records = file(&folder, "records.bin", &bytes);
-    // Short, so that the time is that of the reading and the writing.
-    let filter = assemble("LIT 82 LDZ LIT f2 DEO BRK");
+    let filter = quick();
     let rom = file(&folder, "filter.rom", &filter);
     let start = Instant::now();
     let lines = lines_of(&rom, &records);
     let time = start.elapsed();
     let whole = bytes.len() / RECORD;
     assert_eq!(lines.lines().count(), whole);
-    assert!(lines == expected(&filter, &bytes), "the lines differ");
+    assert!(lines == expected_lines(&filter, &bytes), "the lines differ");
     say(&format!("frames: {whole} records in {time:?}"));
     assert!(time < PATIENCE, "too slow: {time:?}");
 }
@@ -251,7 +316,7 @@ fn lines_of_random_programs_and_records() {
         let lines = lines_of(&rom, &records);
         assert_eq!(
             lines,
-            expected(&code, &bytes),
+            expected_lines(&code, &bytes),
             "seed {}, turn {turn}",
             seed()
         );
@@ -275,16 +340,13 @@ fn a_program_in_pieces() {
     let records = example("records.bin");
     let filter = fs::read(example("filter.rom")).unwrap();
     let output = run_in_pieces(
-        frames().arg("/dev/stdin").arg(&records),
+        frames().arg(STDIN).arg(&records),
         &filter,
         1,
         Duration::from_millis(1),
     );
-    assert_eq!(String::from_utf8_lossy(&output.stderr), "");
-    assert_eq!(
-        String::from_utf8(output.stdout).unwrap(),
-        expected(&filter, &fs::read(&records).unwrap())
-    );
+    let expected = expected_frames(&filter, &fs::read(&records).unwrap(), &records);
+    assert_written(&output, &expected, "a program in pieces");
 }
 
 #[test]
@@ -292,19 +354,15 @@ fn records_in_pieces() {
     let filter = fs::read(example("filter.rom")).unwrap();
     let mut records = fs::read(example("records.bin")).unwrap();
     records.extend([0; 40]);
+    let expected = expected_frames(&filter, &records, STDIN);
     for piece in [1, 7, 63, 64, 65, 100] {
         let output = run_in_pieces(
-            frames().arg(example("filter.rom")).arg("/dev/stdin"),
+            frames().arg(example("filter.rom")).arg(STDIN),
             &records,
             piece,
             Duration::from_micros(200),
         );
-        assert_eq!(String::from_utf8_lossy(&output.stderr), "");
-        assert_eq!(
-            String::from_utf8(output.stdout).unwrap(),
-            expected(&filter, &records),
-            "pieces of {piece}"
-        );
+        assert_written(&output, &expected, format_args!("pieces of {piece}"));
     }
 }
 
@@ -317,29 +375,37 @@ fn a_line_comes_at_once() {
         .arg(example("filter.rom"))
         .arg(&records)
         .stdout(Stdio::piped())
+        .stderr(Stdio::piped())
         .spawn()
         .expect("the program starts");
-    let mut lines = BufReader::new(child.stdout.take().unwrap());
+    let stdout = BufReader::new(child.stdout.take().unwrap());
+    let (send, lines) = mpsc::channel();
+    thread::spawn(move || {
+        for line in stdout.lines() {
+            send.send(line.expect("lines are text")).unwrap();
+        }
+    });
     let mut to = File::options()
         .write(true)
         .open(&records)
         .expect("the pipe opens");
-    for (value, expected) in [(1, "pass\n"), (1, "drop\n"), (2, "pass\n"), (3, "pass\n")] {
+    for (value, expected) in [(1, "pass"), (1, "drop"), (2, "pass"), (3, "pass")] {
         let frame = record(9, &[3, 7, value]);
         // In two pieces: the first alone gives no line.
         let (first, rest) = frame.split_at(20);
         to.write_all(first).expect("the pipe takes it");
         thread::sleep(PAUSE);
         to.write_all(rest).expect("the pipe takes it");
-        let mut line = String::new();
-        lines.read_line(&mut line).expect("a line comes");
+        let line = lines.recv_timeout(PATIENCE).expect("a line comes");
         assert_eq!(line, expected);
     }
+    to.write_all(&[0; 20]).expect("the pipe takes it");
     drop(to);
     assert!(ends(&mut child), "frames goes on after its input has ended");
-    let mut left = String::new();
-    lines.read_to_string(&mut left).unwrap();
-    assert_eq!(left, "");
+    assert_eq!(lines.iter().next(), None);
+    let said = said_at_end(&PASSES, &records, 4 * RECORD + 20);
+    let output = child.wait_with_output().expect("the program has ended");
+    assert_written(&output, &Written::only_said(said), "frames");
 }
 
 // frames: what the system gives it
@@ -348,29 +414,116 @@ fn a_line_comes_at_once() {
 #[test]
 fn descriptors_that_are_closed() {
     let folder = folder("descriptors_that_are_closed");
+    let bytes = [0; 3 * RECORD + 5];
     let passes = file(&folder, "passes.rom", &PASSES);
-    let records = file(&folder, "records.bin", &[0; 3 * RECORD]);
-    let unwritten = "standard output: Bad file descriptor\n";
-    for (closed, out, said) in [
-        ("exec <&-", "pass\npass\npass\n", ""),
-        ("exec 2>&-", "pass\npass\npass\n", ""),
-        ("exec <&- 2>&-", "pass\npass\npass\n", ""),
-        ("exec >&-", "", unwritten),
-        ("exec <&- >&-", "", unwritten),
-        ("exec <&- >&- 2>&-", "", ""),
+    let records = file(&folder, "records.bin", &bytes);
+    let all = || expected_frames(&PASSES, &bytes, &records);
+    let unsaid = || Written::only_out(all().out);
+    let unwritten = || Written::failed(OUTPUT, NOT_OPEN);
+    let nothing = || Written::only_out("");
+    for (closed, expected) in [
+        ("exec <&-", all()),
+        ("exec 2>&-", unsaid()),
+        ("exec <&- 2>&-", unsaid()),
+        ("exec >&-", unwritten()),
+        ("exec <&- >&-", unwritten()),
+        ("exec >&- 2>&-", nothing()),
+        ("exec <&- >&- 2>&-", nothing()),
     ] {
-        let output = run(after(closed, "frames").arg(&passes).arg(&records), &[]);
-        assert_eq!(String::from_utf8_lossy(&output.stdout), out, "{closed}");
-        assert_eq!(String::from_utf8_lossy(&output.stderr), said, "{closed}");
-        assert!(output.status.success(), "{closed}: {}", output.status);
+        let mut command = after(closed, "frames");
+        assert_writes(command.arg(&passes).arg(&records), &[], &expected);
     }
     assert_eq!(fs::read(&passes).unwrap(), PASSES);
-    assert_eq!(fs::read(&records).unwrap(), [0; 3 * RECORD]);
+    assert_eq!(fs::read(&records).unwrap(), bytes);
 
-    let output = run(&mut after("exec <&-", "sheet"), &PASSES);
-    assert_only_complains(&output, "standard input: ");
-    let output = run(&mut after("exec >&-", "sheet"), &PASSES);
-    assert_only_complains(&output, "standard output: ");
+    let admitted = || expected_sheet(&PASSES);
+    let refused = || expected_sheet(&REFUSED);
+    for (closed, code, expected) in [
+        ("exec <&-", &PASSES[..], Written::failed(INPUT, NOT_OPEN)),
+        ("exec >&-", &PASSES, unwritten()),
+        ("exec 2>&-", &PASSES, admitted()),
+        ("exec >&-", &REFUSED, refused()),
+        ("exec 2>&-", &REFUSED, nothing()),
+        ("exec >&- 2>&-", &PASSES, nothing()),
+    ] {
+        assert_writes(&mut after(closed, "sheet"), code, &expected);
+    }
+}
+
+/// Where a message can not be written all else is as ever; a pipe whose reader has gone ends the
+/// program by its signal.
+#[test]
+fn standard_error_that_takes_nothing() {
+    let folder = folder("standard_error_that_takes_nothing");
+    let bytes = [0; 3 * RECORD + 5];
+    let passes = file(&folder, "passes.rom", &PASSES);
+    let refused = file(&folder, "refused.rom", &REFUSED);
+    let records = file(&folder, "records.bin", &bytes);
+    let lines = expected_lines(&PASSES, &bytes).into_bytes();
+    let mut of_frames = frames();
+    of_frames.arg(&passes).arg(&records);
+    for (mut command, out) in [(of_frames, lines), (sheet(), Vec::new())] {
+        let mut ended = |said: Stdio| {
+            let input = File::open(&refused).unwrap();
+            let child = command.stdin(input).stdout(Stdio::piped()).stderr(said);
+            let child = child.spawn().expect("the program starts");
+            let output = child.wait_with_output().expect("the program runs");
+            assert_eq!(output.stdout, out);
+            output.status
+        };
+        assert_eq!(ended(full()).code(), Some(0));
+        let (reader, writer) = io::pipe().expect("a pipe");
+        drop(reader);
+        assert_eq!(ended(writer.into()).signal(), Some(SIGPIPE));
+    }
+}
+
+/// A read that fails, in the place of any that there are: the lines before it stand, and no bytes are
+/// counted.
+#[test]
+fn a_read_that_fails() {
+    let folder = folder("a_read_that_fails");
+    let library = folder.join("failing.so");
+    let source = Path::new(env!("CARGO_MANIFEST_DIR")).join("tests/failing.c");
+    let mut build = Command::new("cc");
+    build.args(["-Wall", "-Wextra", "-Werror", "-shared", "-fPIC"]);
+    assert_eq!(printed(build.arg(source).arg("-o").arg(&library)), "");
+    let failing = |mut command: Command, read: usize| {
+        command.env("LD_PRELOAD", &library);
+        command.env("FAILING_READ", read.to_string());
+        command
+    };
+
+    let passes = file(&folder, "passes.rom", &PASSES);
+    for length in [0, 1, 63] {
+        let bytes = vec![0; 3 * RECORD + length];
+        let records = file(&folder, "records.bin", &bytes);
+        let all = expected_frames(&PASSES, &bytes, &records);
+        let cut = Written {
+            out: all.out.clone(),
+            said: Written::failed(&records, NOT_READ).said,
+        };
+        // The program, its end, the records, their end.
+        for (read, expected) in [
+            (1, &Written::failed(&passes, NOT_READ)),
+            (2, &Written::failed(&passes, NOT_READ)),
+            (3, &Written::failed(&records, NOT_READ)),
+            (4, &cut),
+            (5, &all),
+        ] {
+            let mut command = failing(frames(), read);
+            assert_writes(command.arg(&passes).arg(&records), &[], expected);
+        }
+    }
+    for code in [&PASSES[..], &REFUSED] {
+        for (read, expected) in [
+            (1, Written::failed(INPUT, NOT_READ)),
+            (2, Written::failed(INPUT, NOT_READ)),
+            (3, expected_sheet(code)),
+        ] {
+            assert_writes(&mut failing(sheet(), read), code, &expected);
+        }
+    }
 }
 
 /// A name is any bytes but 0 and the slash.
@@ -379,21 +532,18 @@ fn names_of_any_bytes() {
     let folder = folder("names_of_any_bytes");
     let every: Vec<u8> = (1..=255).filter(|byte| *byte != b'/').collect();
     let halves = every.split_at(every.len() / 2);
-    for bytes in [halves.0, halves.1, b"-h", b"--", b"-", b" "] {
+    for bytes in [halves.0, halves.1, b"--help", b"-h", b"--", b"-", b" "] {
         let name = OsStr::from_bytes(bytes);
         fs::write(folder.join(name), PASSES).expect("a file is written");
         let records = [OsStr::from_bytes(b"records-"), name].join(OsStr::new(""));
-        fs::write(folder.join(&records), [0; RECORD]).expect("a file is written");
-        let output = run(frames().arg(name).arg(&records).current_dir(&folder), &[]);
-        assert_eq!(String::from_utf8_lossy(&output.stderr), "");
-        assert_eq!(String::from_utf8_lossy(&output.stdout), "pass\n");
+        let bytes = [0; RECORD + 6];
+        fs::write(folder.join(&records), bytes).expect("a file is written");
+        let expected = expected_frames(&PASSES, &bytes, &records);
+        let mut command = frames();
+        command.arg(name).arg(&records).current_dir(&folder);
+        assert_writes(&mut command, &[], &expected);
         fs::remove_file(folder.join(name)).expect("the file goes");
-        let output = run(frames().arg(name).arg(&records).current_dir(&folder), &[]);
-        assert!(output.stdout.is_empty());
-        assert!(
-            output.stderr.starts_with(bytes),
-            "the name is in the message"
-        );
+        assert_writes(&mut command, &[], &Written::failed(name, NO_FILE));
     }
 }
 
@@ -402,14 +552,14 @@ fn names_of_any_bytes() {
 fn both_from_one_input() {
     let mut input = PASSES.to_vec();
     input.extend([0; 5 * RECORD]);
-    let output = run(frames().args(["/dev/stdin", "/dev/stdin"]), &input);
-    assert_eq!(output.stdout, []);
-    assert_eq!(String::from_utf8_lossy(&output.stderr), "");
+    let none = Written::only_out("");
+    assert_writes(frames().args([STDIN, STDIN]), &input, &none);
     let folder = folder("both_from_one_input");
     let mut code = PASSES.to_vec();
-    code.resize(3 * RECORD, 0);
+    code.resize(3 * RECORD + 17, 0);
     let both = file(&folder, "both", &code);
-    assert_eq!(lines_of(&both, &both), expected(&code, &code));
+    let expected = expected_frames(&code, &code, &both);
+    assert_writes(frames().args([&both, &both]), &[], &expected);
 }
 
 /// A record file of any length takes the same memory.
@@ -421,17 +571,18 @@ fn little_memory() {
     let count = 1_000_000;
     let zeros = File::create(&records).expect("a file is made");
     zeros
-        .set_len((RECORD * count) as u64)
+        .set_len((RECORD * count + 1) as u64)
         .expect("the file is lengthened");
-    let limits = "ulimit -v 16384 && ulimit -s 512";
-    let output = run(after(limits, "frames").arg(&passes).arg(&records), &[]);
-    assert_eq!(String::from_utf8_lossy(&output.stderr), "");
-    assert!(output.stdout == b"pass\n".repeat(count), "the lines differ");
-    let output = run(
-        &mut after("ulimit -v 16384 && ulimit -s 128", "sheet"),
-        &PASSES,
-    );
-    assert_eq!(output.stdout, PASSES_SHEET);
+    let expected = Written {
+        out: b"pass\n".repeat(count),
+        said: said_at_end(&PASSES, &records, RECORD * count + 1),
+    };
+    let mut command = after("ulimit -v 16384 && ulimit -s 512", "frames");
+    assert_writes(command.arg(&passes).arg(&records), &[], &expected);
+    for code in [&PASSES[..], &REFUSED] {
+        let mut command = after("ulimit -v 16384 && ulimit -s 128", "sheet");
+        assert_writes(&mut command, code, &expected_sheet(code));
+    }
 }
 
 // frames: standard output that takes nothing
@@ -456,30 +607,34 @@ fn a_reader_that_leaves() {
         assert_eq!(line, "pass\n");
         drop(lines);
         assert!(ends(&mut child), "frames goes on with nobody reading");
-        let mut said = String::new();
-        child.stderr.unwrap().read_to_string(&mut said).unwrap();
+        let output = child.wait_with_output().expect("the program has ended");
         if shell.contains("trap") {
-            assert!(said.starts_with("standard output: "), "{said:?}");
+            assert_written(&output, &Written::failed(OUTPUT, NO_READER), shell);
         } else {
-            assert_eq!(said, "");
+            assert_eq!(output.status.signal(), Some(SIGPIPE));
+            assert_eq!(output.stderr, []);
         }
     }
 }
 
-/// Records without end, and an output that takes no more: the program says so and ends.
-fn assert_gives_up(rom: &Path, output: Stdio) {
+/// An output that takes no more: the program says so, and nothing else, and ends.
+fn assert_gives_up(rom: &Path, records: &Path, output: Stdio, reason: &str) {
     let mut child = frames()
         .arg(rom)
-        .arg("/dev/zero")
+        .arg(records)
         .stdout(output)
         .stderr(Stdio::piped())
         .spawn()
         .expect("the program starts");
     assert!(ends(&mut child), "frames goes on though nothing is written");
-    let mut said = String::new();
-    child.stderr.unwrap().read_to_string(&mut said).unwrap();
-    assert!(said.starts_with("standard output: "), "{said:?}");
-    assert_eq!(said.lines().count(), 1);
+    let output = child.wait_with_output().expect("the program has ended");
+    assert_written(&output, &Written::failed(OUTPUT, reason), "frames");
+}
+
+/// A device that takes no byte.
+fn full() -> Stdio {
+    let device = File::options().write(true).open("/dev/full");
+    device.expect("the device opens").into()
 }
 
 #[test]
@@ -487,11 +642,31 @@ fn a_full_device() {
     let folder = folder("a_full_device");
     let passes = file(&folder, "passes.rom", &PASSES);
     let empty = file(&folder, "empty.rom", &[]);
+    let records = file(&folder, "records.bin", &[0; RECORD + 40]);
     for rom in [&passes, &empty] {
-        let full = File::options().write(true).open("/dev/full").unwrap();
-        assert_gives_up(rom, full.into());
+        for records in [Path::new("/dev/zero"), &records] {
+            assert_gives_up(rom, records, full(), NO_SPACE);
+        }
     }
+    // There is no line to be written.
+    let part = file(&folder, "part.bin", &[0; 40]);
+    let child = frames()
+        .args([&passes, &part])
+        .stdout(full())
+        .stderr(Stdio::piped())
+        .spawn();
+    let output = child
+        .and_then(|child| child.wait_with_output())
+        .expect("the program runs");
+    assert_written(
+        &output,
+        &expected_frames(&PASSES, &[0; 40], &part),
+        "frames",
+    );
 }
+
+/// The C library's words for what would have to wait.
+const NOT_YET: &str = "Resource temporarily unavailable";
 
 /// Two ends of a connection; the second one does not wait.
 fn impatient() -> (UnixStream, OwnedFd) {
@@ -506,7 +681,7 @@ fn an_output_that_does_not_wait() {
     let folder = folder("an_output_that_does_not_wait");
     let passes = file(&folder, "passes.rom", &PASSES);
     let (mut ours, theirs) = impatient();
-    assert_gives_up(&passes, theirs.into());
+    assert_gives_up(&passes, Path::new("/dev/zero"), theirs.into(), NOT_YET);
     let mut lines = Vec::new();
     ours.read_to_end(&mut lines).expect("the lines are read");
     let expected = b"pass\n".repeat(lines.len().div_ceil(5));
@@ -549,7 +724,7 @@ fn the_records_are_as_their_text_says() {
     bytes.resize(bytes.len().next_multiple_of(RECORD), 0);
     assert_eq!(bytes, fs::read(example("records.bin")).unwrap());
     let filter = fs::read(example("filter.rom")).unwrap();
-    assert_eq!(lines, expected(&filter, &bytes));
+    assert_eq!(lines, expected_lines(&filter, &bytes));
     assert_eq!(
         lines,
         lines_of(&example("filter.rom"), &example("records.bin"))
@@ -567,16 +742,39 @@ fn the_example_is_admitted() {
 
 // sheet
 
+/// LIT without its operand: not the whole instruction lies in the program.
+const REFUSED: [u8; 1] = [0x80];
+
 /// The sheet of document 01.
 const PASSES_SHEET: [u8; 24] = [
     0x01, 0x00, 0x00, 0x80, 0x00, 0x00, 0x00, 0x01, 0x01, 0x01, 0x00, 0x80, 0x00, 0x00, 0x00, 0xf2,
     0x01, 0x02, 0x00, 0x17, 0x01, 0x00, 0x00, 0x00,
 ];
 
+/// Each number, and nothing but the number; the first that applies.
 #[test]
-fn sheet_takes_no_argument() {
-    let output = run(sheet().arg("program.rom"), &PASSES);
-    assert_only_helps(&output, "usage: sheet < PROGRAM > SHEET");
+fn refused_sheets() {
+    let stores = assemble("LIT2 0000 LIT 10 STZ2 BRK");
+    let long = vec![0; ADMIT_LIMIT + 1];
+    let long_and_wrong = vec![0x02; ADMIT_LIMIT + 1];
+    for (code, said) in [
+        (&[][..], "refused 5\n"),
+        (&long, "refused 9\n"),
+        (&long_and_wrong, "refused 9\n"),
+        (&long_and_wrong[1..], "refused 11\n"),
+        (&REFUSED, "refused 11\n"),
+        (&stores, "refused 11\n"),
+    ] {
+        let expected = Written::only_said(said);
+        assert_writes(&mut sheet(), code, &expected);
+        let pause = Duration::from_micros(100);
+        let output = run_in_pieces(&mut sheet(), code, 1 + code.len() / 40, pause);
+        assert_written(&output, &expected, "in pieces");
+    }
+    // No more is read than tells that it is too long.
+    let zeros = File::open("/dev/zero").expect("the device opens");
+    let output = sheet().stdin(zeros).output().expect("the program runs");
+    assert_written(&output, &Written::only_said("refused 9\n"), "/dev/zero");
 }
 
 #[test]
@@ -584,8 +782,7 @@ fn sheets_of_every_length() {
     assert_eq!(sheet_of(&PASSES), PASSES_SHEET);
     assert_eq!(sheet_of(&[]), []);
     assert_eq!(sheet_of(&[0x00]), [1, 0, 0, 0]);
-    // Not the whole instruction lies in the program.
-    assert_eq!(sheet_of(&[0x80]), []);
+    assert_eq!(sheet_of(&REFUSED), []);
     let mut random = Random::new(seed());
     for length in [2, 1_000, ADMIT_LIMIT - 1, ADMIT_LIMIT] {
         // After BRK nothing is reached.
@@ -610,8 +807,9 @@ fn sheets_beside_the_second_admission() {
         let length = any_length(&mut random, ADMIT_LIMIT + 1);
         let code = any(&mut random, turn, length);
         let expected = expected_sheet(&code);
-        admitted += usize::from(!expected.is_empty());
-        assert!(sheet_of(&code) == expected, "turn {turn}");
+        admitted += usize::from(expected.said.is_empty());
+        let output = run(&mut sheet(), &code);
+        assert_written(&output, &expected, format_args!("turn {turn}"));
     }
     say(&format!("sheet: {admitted} of {programs} are admitted"));
     assert!((programs / 4..=programs * 3 / 4).contains(&admitted));
@@ -619,69 +817,113 @@ fn sheets_beside_the_second_admission() {
 
 #[test]
 fn a_sheet_of_a_program_in_pieces() {
-    let output = run_in_pieces(&mut sheet(), &PASSES, 1, Duration::from_millis(20));
-    assert_eq!(String::from_utf8_lossy(&output.stderr), "");
-    assert_eq!(output.stdout, PASSES_SHEET);
-
-    let mut code = vec![0x40; ADMIT_LIMIT];
-    code[0] = 0;
-    let output = run_in_pieces(&mut sheet(), &code, 100, Duration::from_micros(100));
-    assert_eq!(output.stdout.len(), 4 * ADMIT_LIMIT);
-    code.push(0);
-    let output = run_in_pieces(&mut sheet(), &code, 100, Duration::from_micros(100));
-    assert_eq!(output.stdout.len(), 0);
+    let mut longest = vec![0x40; ADMIT_LIMIT];
+    longest[0] = 0;
+    for (code, piece, pause) in [
+        (&PASSES[..], 1, Duration::from_millis(20)),
+        (&longest, 100, Duration::from_micros(100)),
+    ] {
+        let output = run_in_pieces(&mut sheet(), code, piece, pause);
+        assert_written(&output, &expected_sheet(code), "a program in pieces");
+    }
 }
 
 #[test]
 fn sheet_says_what_it_can_not_read_or_write() {
     let folder = folder("sheet_says_what_it_can_not_read_or_write");
-    let output = sheet()
-        .stdin(File::open(&folder).unwrap())
-        .output()
-        .expect("the program runs");
-    assert_only_complains(&output, "standard input: ");
-
-    // Nothing is there yet, and it does not wait.
+    // There is nothing there yet, and it does not wait.
     let (_ours, theirs) = impatient();
-    let output = sheet().stdin(theirs).output().expect("the program runs");
-    assert_only_complains(&output, "standard input: ");
+    for (input, reason) in [
+        (Stdio::from(File::open(&folder).unwrap()), IS_FOLDER),
+        (theirs.into(), NOT_YET),
+    ] {
+        let output = sheet().stdin(input).output().expect("the program runs");
+        assert_written(&output, &Written::failed(INPUT, reason), "sheet");
+    }
 
-    let passes = file(&folder, "passes.rom", &PASSES);
-    let output = sheet()
-        .stdin(File::open(&passes).unwrap())
-        .stdout(File::options().write(true).open("/dev/full").unwrap())
-        .stderr(Stdio::piped())
-        .spawn()
-        .and_then(|child| child.wait_with_output())
-        .expect("the program runs");
-    assert_only_complains(&output, "standard output: ");
+    // Where it is refused there is nothing to be written.
+    for (code, expected) in [
+        (&PASSES[..], Written::failed(OUTPUT, NO_SPACE)),
+        (&REFUSED, expected_sheet(&REFUSED)),
+    ] {
+        let rom = file(&folder, "program.rom", code);
+        let child = sheet()
+            .stdin(File::open(&rom).unwrap())
+            .stdout(full())
+            .stderr(Stdio::piped())
+            .spawn();
+        let output = child.and_then(|child| child.wait_with_output());
+        assert_written(&output.expect("the program runs"), &expected, "sheet");
+    }
+}
+
+// Success
+
+/// The command by which `README.md` tells whether a program is admitted.
+#[test]
+fn a_script_tells_success() {
+    let folder = folder("a_script_tells_success");
+    let page = fs::read_to_string(repository("README.md")).expect("the page");
+    let shown: Vec<&str> = page
+        .lines()
+        .filter(|line| line.contains("2> said"))
+        .collect();
+    let [shown] = shown[..] else {
+        panic!("one command of README.md: {shown:?}");
+    };
+    let script = |rom: &Path| {
+        let mut command = shown.to_owned();
+        for (named, path) in [
+            ("target/bin/sheet", &*program("sheet")),
+            ("crates/frames/data/filter.rom", rom),
+        ] {
+            assert_eq!(command.matches(named).count(), 1, "{shown}");
+            command = command.replace(named, &format!("'{}'", path.display()));
+        }
+        let mut shell = Command::new("sh");
+        let output = run(shell.args(["-c", &command]).current_dir(&folder), &[]);
+        String::from_utf8(output.stdout).expect("text")
+    };
+    let written = folder.join("filter.sheet");
+    assert_eq!(script(&file(&folder, "passes.rom", &PASSES)), "admitted\n");
+    assert_eq!(fs::read(&written).expect("the sheet"), PASSES_SHEET);
+    let refused = file(&folder, "refused.rom", &REFUSED);
+    assert_eq!(script(&refused), "refused 11\n");
+    assert_eq!(fs::read(&written).expect("the sheet"), []);
+
+    // A reader that leaves before there is a sheet: the signal ends the program, and nothing is said.
+    fs::remove_file(&written).expect("the file goes");
+    let [rom, written] = ["passes.pipe", "filter.sheet"].map(|name| pipe(&folder, name));
+    let coming = rom.clone();
+    let leaves = thread::spawn(move || {
+        let mut to = File::options().write(true).open(coming)?;
+        drop(File::open(written)?);
+        to.write_all(&PASSES)
+    });
+    assert_eq!(script(&rom), "");
+    leaves.join().unwrap().expect("the program is written");
 }
 
 // Both, under valgrind
 
-/// A run, and what it should write on standard output and, if something is wrong, say.
+/// A run, and what it should write.
 struct Watched {
     program: &'static str,
     arguments: Vec<PathBuf>,
     input: Vec<u8>,
-    out: Vec<u8>,
-    words: Option<&'static str>,
+    expected: Written,
 }
 
-fn watched_frames(program: &Path, records: &Path, words: Option<&'static str>) -> Watched {
-    let out = match words {
-        None => expected(
-            &fs::read(program).expect("the program"),
-            &fs::read(records).expect("the records"),
-        ),
-        Some(_) => String::new(),
+fn watched_frames(program: &Path, records: &Path) -> Watched {
+    let expected = match fs::read(records) {
+        Ok(bytes) => expected_frames(&fs::read(program).expect("the program"), &bytes, records),
+        Err(_) => Written::failed(records, IS_FOLDER),
     };
     Watched {
         program: "frames",
         arguments: vec![program.to_owned(), records.to_owned()],
         input: Vec::new(),
-        out: out.into_bytes(),
-        words,
+        expected,
     }
 }
 
@@ -690,8 +932,16 @@ fn watched_sheet(input: &[u8]) -> Watched {
         program: "sheet",
         arguments: Vec::new(),
         input: input.to_vec(),
-        out: expected_sheet(input),
-        words: None,
+        expected: expected_sheet(input),
+    }
+}
+
+fn watched_help(program: &'static str) -> Watched {
+    Watched {
+        program,
+        arguments: vec![PathBuf::from("--help")],
+        input: Vec::new(),
+        expected: Written::only_out(usage(program)),
     }
 }
 
@@ -705,8 +955,7 @@ fn valgrind_has_nothing_to_say() {
     let folder = folder("valgrind_has_nothing_to_say");
     let mut random = Random::new(seed());
     // A program of every kind with some records, more than a block with a short one.
-    let filter = assemble("LIT 82 LDZ LIT f2 DEO BRK");
-    let quick = file(&folder, "quick.rom", &filter);
+    let quick = file(&folder, "quick.rom", &quick());
     let mut bytes: Vec<u8> = (0..1_030)
         .flat_map(|_| random_record(&mut random))
         .collect();
@@ -714,14 +963,17 @@ fn valgrind_has_nothing_to_say() {
     bytes.truncate(4 * RECORD + 30);
     let few = file(&folder, "few.bin", &bytes);
     let mut runs = vec![
-        watched_frames(&example("filter.rom"), &example("records.bin"), None),
-        watched_frames(&quick, &many, None),
-        watched_frames(&quick, &folder, Some("valgrind_has_nothing_to_say: ")),
+        watched_frames(&example("filter.rom"), &example("records.bin")),
+        watched_frames(&quick, &many),
+        watched_frames(&quick, &folder),
+        watched_sheet(&[]),
+        watched_help("frames"),
+        watched_help("sheet"),
     ];
     for (turn, length) in [(0, PROGRAM_LIMIT), (1, 1), (0, PROGRAM_LIMIT + 1)] {
         let code = either(&mut random, turn, length, true);
         let rom = file(&folder, &format!("{turn}-{length}.rom"), &code);
-        runs.push(watched_frames(&rom, &few, None));
+        runs.push(watched_frames(&rom, &few));
     }
     for (turn, length) in [(0, 2_000), (2, ADMIT_LIMIT), (0, ADMIT_LIMIT + 1)] {
         runs.push(watched_sheet(&any(&mut random, turn, length)));
@@ -737,14 +989,7 @@ fn valgrind_has_nothing_to_say() {
             .args(["--error-exitcode=9", "-q"])
             .arg(program(watched.program))
             .args(&watched.arguments);
-        let output = run(&mut command, &watched.input);
-        let said = String::from_utf8_lossy(&output.stderr);
-        assert!(output.status.success(), "{command:?}: {said}");
-        assert!(output.stdout == watched.out, "{command:?}");
-        match watched.words {
-            None => assert_eq!(said, "", "{command:?}"),
-            Some(words) => assert_only_complains(&output, words),
-        }
+        assert_writes(&mut command, &watched.input, &watched.expected);
     };
     thread::scope(|scope| {
         for _ in 0..2 {
