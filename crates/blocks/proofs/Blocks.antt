@@ -11,7 +11,7 @@ use Rattle.model.specs.Machine.{State}
 use Rattle.model.specs.Run.{Reply}
 use Rattle.model.specs.Calls.{frameSize, frameCall}
 use Rattle.text.specs.Lines.{line}
-use Rattle.blocks.specs.Frames.{frameBudget, wholeRecords, frameAt, machineAfter, lines, judged, further}
+use Rattle.blocks.specs.Frames.{frameBudget, wholeRecords, frameAt, machineAfter, firstLines, judged, further}
 
 -- the part of the records that is lent
 lent-is : (records : List ℕ) (k : ℕ)
@@ -29,9 +29,9 @@ module _ (records : List ℕ) (s now : State) (k : ℕ) (r : Reply) (before : no
   unfolding machineAfter
   state-more t e = rw add-one (sym e ∙ ap (λ (q : Reply). q .state) call-is)
 
-  pub lines-more : (x y : List ℕ) → x ≡ lines records s k → y ≡ x ++ line r → y ≡ lines records s (k + 1)
-  unfolding lines
-  lines-more x y hx hy = rw add-one (hy ∙ rw hx (ap (λ (q : Reply). lines records s k ++ line q) call-is))
+  pub lines-more : (x y : List ℕ) → x ≡ firstLines records s k → y ≡ x ++ line r → y ≡ firstLines records s (k + 1)
+  unfolding firstLines
+  lines-more x y hx hy = rw add-one (hy ∙ rw hx (ap (λ (q : Reply). firstLines records s k ++ line q) call-is))
 
 -- ---- records that come in two blocks, the first of k whole records: as if they came in one
 
@@ -56,26 +56,26 @@ module _ (a b : List ℕ) (s : State) (k : ℕ) (whole : length a ≡ frameSize 
   machine-first (suc i) h =
       ap (λ (q : Reply). q .state) (same-call (record-first i (omega arith)) (machine-first i (omega arith)))
 
-  lines-first : (i : ℕ) → i ≤ k → lines (a ++ b) s i ≡ lines a s i
-  unfolding lines
+  lines-first : (i : ℕ) → i ≤ k → firstLines (a ++ b) s i ≡ firstLines a s i
+  unfolding firstLines
   lines-first zero h = refl
   lines-first (suc i) h =
       ap (λ (x : List ℕ). x ++ line (frameCall (frameAt (a ++ b) i) frameBudget (machineAfter (a ++ b) s i))) (lines-first i (omega arith))
-      ∙ ap (λ (q : Reply). lines a s i ++ line q) (same-call (record-first i (omega arith)) (machine-first i (omega arith)))
+      ∙ ap (λ (q : Reply). firstLines a s i ++ line q) (same-call (record-first i (omega arith)) (machine-first i (omega arith)))
 
   machine-parts : (j : ℕ) → machineAfter (a ++ b) s (k + j) ≡ machineAfter b (machineAfter a s k) j
   unfolding machineAfter
   machine-parts zero = rw add-zero (machine-first k (omega arith))
   machine-parts (suc j) = rw add-suc (ap (λ (q : Reply). q .state) (same-call (record-second j) (machine-parts j)))
 
-  lines-parts : (j : ℕ) → lines (a ++ b) s (k + j) ≡ lines a s k ++ lines b (machineAfter a s k) j
-  unfolding lines
-  lines-parts zero = rw add-zero (lines-first k (omega arith) ∙ sym (append-nil (lines a s k)))
+  lines-parts : (j : ℕ) → firstLines (a ++ b) s (k + j) ≡ firstLines a s k ++ firstLines b (machineAfter a s k) j
+  unfolding firstLines
+  lines-parts zero = rw add-zero (lines-first k (omega arith) ∙ sym (append-nil (firstLines a s k)))
   lines-parts (suc j) =
       rw add-suc
       (ap (λ (x : List ℕ). x ++ line (frameCall (frameAt (a ++ b) (k + j)) frameBudget (machineAfter (a ++ b) s (k + j)))) (lines-parts j)
-      ∙ ap (λ (q : Reply). (lines a s k ++ lines b (machineAfter a s k) j) ++ line q) (same-call (record-second j) (machine-parts j))
-      ∙ append-assoc (lines a s k) (lines b (machineAfter a s k) j) (line (frameCall (frameAt b j) frameBudget (machineAfter b (machineAfter a s k) j))))
+      ∙ ap (λ (q : Reply). (firstLines a s k ++ firstLines b (machineAfter a s k) j) ++ line q) (same-call (record-second j) (machine-parts j))
+      ∙ append-assoc (firstLines a s k) (firstLines b (machineAfter a s k) j) (line (frameCall (frameAt b j) frameBudget (machineAfter b (machineAfter a s k) j))))
 
   all-records : wholeRecords (a ++ b) ≡ k + wholeRecords b
   all-records = rw (length-append a b, whole) (omega arith)
@@ -85,7 +85,7 @@ module _ (a b : List ℕ) (s : State) (k : ℕ) (whole : length a ≡ frameSize 
       let e : frameSize * (k + wholeRecords b) ≡ length a + frameSize * wholeRecords b = omega arith in
       rw (e, drop-append-add a b (frameSize * wholeRecords b))
 
-  judged-parts : judged (a ++ b) s ≡ (let j = judged b (machineAfter a s k) in record { machine = j .machine; lines = lines a s k ++ j .lines; waiting = j .waiting })
+  judged-parts : judged (a ++ b) s ≡ (let j = judged b (machineAfter a s k) in record { machine = j .machine; lines = firstLines a s k ++ j .lines; waiting = j .waiting })
   unfolding judged
   judged-parts = rw (all-records, machine-parts (wholeRecords b), lines-parts (wholeRecords b), waits)
 
@@ -110,10 +110,10 @@ module _ (a b : List ℕ) (s : State) where
   machines : machineAfter h s k ≡ machineAfter a s k
   machines = sym (ap (λ (x : List ℕ). machineAfter x s k) joined ∙ machine-first h w s k whole k (omega arith))
 
-  first-lines : lines h s k ≡ lines a s k
-  first-lines = sym (ap (λ (x : List ℕ). lines x s k) joined ∙ lines-first h w s k whole k (omega arith))
+  first-lines : firstLines h s k ≡ firstLines a s k
+  first-lines = sym (ap (λ (x : List ℕ). firstLines x s k) joined ∙ lines-first h w s k whole k (omega arith))
 
-  at-the-cut : (let j = judged (w ++ b) (machineAfter h s k) in record { machine = j .machine; lines = lines h s k ++ j .lines; waiting = j .waiting })
+  at-the-cut : (let j = judged (w ++ b) (machineAfter h s k) in record { machine = j .machine; lines = firstLines h s k ++ j .lines; waiting = j .waiting })
       ≡ further (judged a s) b
   unfolding further judged
   at-the-cut = rw (machines, first-lines)
@@ -125,7 +125,7 @@ module _ (a b : List ℕ) (s : State) where
 
 -- less than a record: no call, no line, and all of it waits
 pub all-wait : (part : List ℕ) (s : State) → length part < frameSize → record { machine = s; lines = []; waiting = part } ≡ judged part s
-unfolding judged machineAfter lines
+unfolding judged machineAfter firstLines
 all-wait part s h = let e : wholeRecords part ≡ 0 = omega arith in rw e
 
 -- ---- a block
@@ -144,7 +144,7 @@ waiting-is n w block moved l e h =
 
 pub worked : (n w : ℕ) (block moved out : List ℕ) (s t : State) → n ≤ length block → w ≡ n % frameSize
     → take (n - (n - w)) moved ≡ take (n - (n - w)) (drop (n - w) block)
-    → t ≡ machineAfter (take n block) s (wholeRecords (take n block)) → out ≡ lines (take n block) s (wholeRecords (take n block))
+    → t ≡ machineAfter (take n block) s (wholeRecords (take n block)) → out ≡ firstLines (take n block) s (wholeRecords (take n block))
     → record { machine = t; lines = out; waiting = take w moved } ≡ judged (take n block) s
 unfolding judged
 worked n w block moved out s t l e h f g = rw (f, g, waiting-is n w block moved l e h)

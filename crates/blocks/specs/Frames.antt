@@ -24,10 +24,10 @@ machineAfter records s zero = s
 machineAfter records s (suc k) = frameCall (frameAt records k) frameBudget (machineAfter records s k) .state
 
 -- their lines
-unfoldable pub lines : List ℕ → State → ℕ → List ℕ
-lines records s zero = []
-lines records s (suc k) =
-    lines records s k ++ line (frameCall (frameAt records k) frameBudget (machineAfter records s k))
+unfoldable pub firstLines : List ℕ → State → ℕ → List ℕ
+firstLines records s zero = []
+firstLines records s (suc k) =
+    firstLines records s k ++ line (frameCall (frameAt records k) frameBudget (machineAfter records s k))
 
 -- what the bytes of a record file come to: the machine after all whole records, their lines, and the bytes of the record that
 -- is not whole, which wait for the rest of it
@@ -40,7 +40,7 @@ unfoldable pub judged : List ℕ → State → Judged
 judged bytes s =
     record {
       machine = machineAfter bytes s (wholeRecords bytes);
-      lines = lines bytes s (wholeRecords bytes);
+      lines = firstLines bytes s (wholeRecords bytes);
       waiting = drop (frameSize * wholeRecords bytes) bytes;
     }
 

@@ -13,7 +13,7 @@ ghost use Rattle.model.specs.Machine.{State, state};
 ghost use Rattle.model.specs.Calls.{frameSize, loadCall};
 ghost use Rattle.model.specs.Replies.{ofFrame};
 ghost use Rattle.text.specs.Lines.{line, lineMost};
-ghost use Rattle.blocks.specs.Frames.{wholeRecords, machineAfter, lines, judged};
+ghost use Rattle.blocks.specs.Frames.{wholeRecords, machineAfter, firstLines, judged};
 
 // "with a budget of 10,000 steps a frame"
 const BUDGET: u32 = 10000;
@@ -22,15 +22,15 @@ const BUDGET: u32 = 10000;
 const RECORD: usize = 64;
 
 // The machine record afterwards, and how many bytes of lines there are.
-pub struct Written {
+pub struct Done {
     pub machine: Machine,
-    pub lines: usize,
+    pub written: usize,
 }
 
 // The machine record after a block, how many bytes of lines there are, and how many bytes wait at the start of the block.
 pub struct Worked {
     pub machine: Machine,
-    pub lines: usize,
+    pub written: usize,
     pub waiting: usize,
 }
 
@@ -43,18 +43,21 @@ pub fn load(
     ret: &mut [u8],
     program: &[u8],
     out: &mut [u8],
-) -> Written
+) -> Done
     requires { ⌜ lineMost ≤ length (now out) ⌝ }
     ensures { λ r. ⌜ state (now (memory .exit)) (now (devices .exit)) (now (work .exit)) (now (ret .exit)) (r .machine)
         ≡ loadCall (now (program .entry)) (state (now (memory .entry)) (now (devices .entry)) (now (work .entry)) (now (ret .entry)) m) .state ⌝ }
-    ensures { λ r. ⌜ (r .lines ≤ length (now (out .exit))) × (take (r .lines) (now (out .exit))
+    ensures { λ r. ⌜ (r .written ≤ length (now (out .exit))) × (take (r .written) (now (out .exit))
         ≡ line (loadCall (now (program .entry)) (state (now (memory .entry)) (now (devices .entry)) (now (work .entry)) (now (ret .entry)) m))) ⌝ }
 {
     match machine::load(m, memory, devices, work, ret, program) {
-        LoadReply::Loaded(machine) => Written { machine, lines: 0 },
+        LoadReply::Loaded(machine) => Done {
+            machine,
+            written: 0,
+        },
         LoadReply::Refused(number, machine) => {
-            let lines = put_refused(out, 0, number);
-            Written { machine, lines }
+            let written = put_refused(out, 0, number);
+            Done { machine, written }
         }
     }
 }
@@ -78,12 +81,12 @@ fn frames(
     ret: &mut [u8],
     records: &[u8],
     out: &mut [u8],
-) -> Written
+) -> Done
     requires { ⌜ lineMost * wholeRecords (now records) ≤ length (now out) ⌝ }
     ensures { λ r. ⌜ state (now (memory .exit)) (now (devices .exit)) (now (work .exit)) (now (ret .exit)) (r .machine)
         ≡ machineAfter (now (records .entry)) (state (now (memory .entry)) (now (devices .entry)) (now (work .entry)) (now (ret .entry)) m) (wholeRecords (now (records .entry))) ⌝ }
-    ensures { λ r. ⌜ (r .lines ≤ length (now (out .exit))) × (take (r .lines) (now (out .exit))
-        ≡ lines (now (records .entry)) (state (now (memory .entry)) (now (devices .entry)) (now (work .entry)) (now (ret .entry)) m) (wholeRecords (now (records .entry)))) ⌝ }
+    ensures { λ r. ⌜ (r .written ≤ length (now (out .exit))) × (take (r .written) (now (out .exit))
+        ≡ firstLines (now (records .entry)) (state (now (memory .entry)) (now (devices .entry)) (now (work .entry)) (now (ret .entry)) m) (wholeRecords (now (records .entry)))) ⌝ }
 {
     let count = records.len() / RECORD;
     let mut machine = m;
@@ -105,10 +108,7 @@ fn frames(
         written = put_line(out, written, reply);
         k += 1;
     }
-    Written {
-        machine,
-        lines: written,
-    }
+    Done { machine, written }
 }
 
 // The bytes from `start` to `end` move to the start of the block.
@@ -139,20 +139,20 @@ pub fn work_off(
     requires { ⌜ (n ≤ length (now block)) × (lineMost * (n / frameSize) ≤ length (now out)) ⌝ }
     ensures { λ r. ⌜ record {
       machine = state (now (memory .exit)) (now (devices .exit)) (now (work .exit)) (now (ret .exit)) (r .machine);
-      lines = take (r .lines) (now (out .exit));
+      lines = take (r .written) (now (out .exit));
       waiting = take (r .waiting) (now (block .exit));
     }
         ≡ judged (take n (now (block .entry))) (state (now (memory .entry)) (now (devices .entry)) (now (work .entry)) (now (ret .entry)) m) ⌝ }
-    ensures { λ r. ⌜ (r .lines ≤ length (now (out .exit))) × (r .waiting < frameSize) × (r .waiting ≤ length (now (block .exit))) ⌝ }
+    ensures { λ r. ⌜ (r .written ≤ length (now (out .exit))) × (r .waiting < frameSize) × (r .waiting ≤ length (now (block .exit))) ⌝ }
 {
     let done = frames(m, memory, devices, work, ret, &block[..n], out);
     let waiting = n % RECORD;
     move_to_front(block, n - waiting, n);
     let machine = done.machine;
-    let lines = done.lines;
+    let written = done.written;
     Worked {
         machine,
-        lines,
+        written,
         waiting,
     }
 }

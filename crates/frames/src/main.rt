@@ -32,7 +32,7 @@ fn run(program: &[u8], records: i32, records_path: &[u8]) {
         program,
         &mut line,
     );
-    let n = loaded.lines;
+    let n = loaded.written;
     if n != 0 {
         if !io::write_all(STDOUT_FILENO, &line[..n]) {
             os::fail(b"standard output");

@@ -18,7 +18,7 @@ ghost use Rattle.frames.specs.Reading.{blockSize, linesSize, Came, CameI
 // wait at the start of the block, and whether to read on.
 pub struct Turn {
     pub machine: Machine,
-    pub lines: usize,
+    pub written: usize,
     pub waiting: usize,
     pub more: bool,
 }
@@ -65,7 +65,7 @@ fn read_some(
     ensures { λ r. ⌜ Came (take waited (now (block .entry))) (state (now (memory .entry)) (now (devices .entry)) (now (work .entry)) (now (ret .entry)) m)
         (record {
           machine = state (now (memory .exit)) (now (devices .exit)) (now (work .exit)) (now (ret .exit)) (r .machine);
-          lines = take (r .lines) (now (lines .exit));
+          lines = take (r .written) (now (lines .exit));
           waiting = take (r .waiting) (now (block .exit));
         }) ⌝ }
     ensures { λ r. ⌜ r .waiting < frameSize ⌝ }
@@ -74,7 +74,7 @@ fn read_some(
         os::fail(path);
         return Turn {
             machine: m,
-            lines: 0,
+            written: 0,
             waiting: waited,
             more: false,
         };
@@ -83,14 +83,14 @@ fn read_some(
         end_of_file(path, waited);
         return Turn {
             machine: m,
-            lines: 0,
+            written: 0,
             waiting: waited,
             more: false,
         };
     }
     let done = work_off(m, memory, devices, work, ret, block, n, lines);
     let machine = done.machine;
-    let written = done.lines;
+    let written = done.written;
     let waiting = done.waiting;
     let more = io::write_all(STDOUT_FILENO, &lines[..written]);
     if !more {
@@ -98,7 +98,7 @@ fn read_some(
     }
     Turn {
         machine,
-        lines: written,
+        written,
         waiting,
         more,
     }

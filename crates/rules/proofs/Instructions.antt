@@ -1,16 +1,16 @@
 -- Laws of one instruction: the depths after it, and where it jumps. Assumes nothing.
-use mathlib.Core.Path.{_≡_, refl}
-use mathlib.Core.Bool.{Bool, true, false, cond}
+use mathlib.Core.Path.{_≡_, refl, sym}
+use mathlib.Core.Bool.{Bool, true, false, cond, not, Bool·not-not}
 use mathlib.Core.List.{List, [], _∷_}
 use Prim.Native.Nat.{ℕ, _+_, _-_, _*_, _%_, _^_, _≤_, _<_}
 use native.Mathlib.Omega.{arith}
-use lib.Dec.{ltb}
+use lib.Dec.{eqb, ltb}
 use lib.ListN.{getD}
 use borrow.Author.Tests.{ne-eqb, ltb-false, lt-ltb, le-ltb}
 use Rattle.model.specs.Bytes.{number}
 use Rattle.model.specs.Machine.{start}
 use Rattle.model.specs.Instruction.{lengthOf}
-use Rattle.model.specs.Admission.{Mark, byteAt, markAfter, successors}
+use Rattle.model.specs.Admission.{Mark, byteAt, allowed, markAfter, successors}
 use Rattle.model.proofs.Computing.{decoding}
 use Rattle.rules.specs.Depths.{jumpTarget, depthOr}
 
@@ -26,6 +26,13 @@ target-is program i two r e f =
     let a : start + i + 1 - start ≡ i + 1 = omega arith in
     let b : start + i + 2 - start ≡ i + 2 = omega arith in
     rw (f, e, a, b) (omega arith)
+
+-- a byte that is none of JMP, JCN, JSR, STR, STA and JSI: only 16-bit STZ is left
+pub let-through : (byte : ℕ) → (byte % 32 ≡ 0x0C → ⊥) → (byte % 32 ≡ 0x0D → ⊥) → (byte % 32 ≡ 0x0E → ⊥) → (byte % 32 ≡ 0x13 → ⊥)
+    → (byte % 32 ≡ 0x15 → ⊥) → (byte ≡ 0x60 → ⊥) → eqb (byte % 64) 0x31 ≡ not (allowed byte)
+unfolding allowed
+let-through byte jmp jcn jsr str sta jsi =
+    rw (ne-eqb _ _ jmp, ne-eqb _ _ jcn, ne-eqb _ _ jsr, ne-eqb _ _ str, ne-eqb _ _ sta, ne-eqb _ _ jsi) (sym (Bool·not-not _))
 
 -- the two sides of the test
 pub depth-short : (depth taken after : ℕ) → depth < taken → 256 ≡ depthOr depth taken after

@@ -1,8 +1,6 @@
 -- `rules::forbidden` meets its contract. Assumes nothing.
-use mathlib.Core.Path.{sym}
-use mathlib.Core.Bool.{Bool·not-not}
-use borrow.Author.Tests.{ne-eqb}
 use Rattle.model.specs.Admission.{allowed}
+use Rattle.rules.proofs.Instructions as laws
 use Rattle.rules.proofs.forbidden.Statement.{statement}
 use Rattle.rules.proofs.forbidden.Tie as tie
 
@@ -31,8 +29,7 @@ unfolding allowed
 returns-6 c = rw (c .if6 .taken)
 
 returns-7 : tie.Need-returns-7
-unfolding allowed
-returns-7 c = rw (ne-eqb _ _ (c .before .before .before .before .before .if1 .left), ne-eqb _ _ (c .before .before .before .before .if2 .left), ne-eqb _ _ (c .before .before .before .if3 .left), ne-eqb _ _ (c .before .before .if4 .left), ne-eqb _ _ (c .before .if5 .left), ne-eqb _ _ (c .if6 .left)) (sym (Bool·not-not _))
+returns-7 c = laws.let-through _ (c .before .before .before .before .before .if1 .left) (c .before .before .before .before .if2 .left) (c .before .before .before .if3 .left) (c .before .before .if4 .left) (c .before .if5 .left) (c .if6 .left)
 
 pub forbidden-spec : {M : Type 1} → statement M
 forbidden-spec =

@@ -16,7 +16,7 @@ work-off-requires : tie.Need-work-off-requires
 work-off-requires c κs = let w = rw (c .before .before .before .before .before .before .before .before .n .given .1) at (c .before .before .before .before .before .before .before .before .before .before .before .before .read-more .ensures .0) in (omega (arith, w .1), omega (arith, w .1))
 
 slice-aggregate-write-all : tie.Need-slice-aggregate-write-all
-slice-aggregate-write-all c = counts (c .before .before .before .before .before .before .before .before .before .before .before .before .before .before .work-off .result .lines) _ (c .before .before .before .before .before .before .before .before .before .before .before .before .before .before .work-off .ensures .1 .0) .1
+slice-aggregate-write-all c = counts (c .before .before .before .before .before .before .before .before .before .before .before .before .before .before .work-off .result .written) _ (c .before .before .before .before .before .before .before .before .before .before .before .before .before .before .work-off .ensures .1 .0) .1
 
 returns-3 : tie.Need-returns-3
 returns-3 c = let w = rw (c .before .before .before .before .before .before .before .before .before .before .before .before .before .before .before .before .before .before .before .before .before .before .before .before .before .before .before .n .given .1) at (c .before .before .before .before .before .before .before .before .before .before .before .before .before .before .before .before .before .before .before .before .before .before .before .before .before .before .before .before .before .before .before .read-more .ensures .0) in (coming.came _ _ (c .before .before .before .before .before .before .before .before .before .before .before .before .before .before .before .before .before .before .before .before .before .before .before .before .before .before .before .before .before .before .before .before .before .before .before .before .before .before .before .before .args .block .now) _ _ _ (w .0) (c .before .before .before .before .before .before .before .before .before .before .before .before .before .before .before .before .before .before .before .before .before .before .before .before .before .before .before .before .before .before .before .read-more .ensures .1) (c .before .before .before .before .before .before .before .before .before .before .before .before .before .before .before .before .before .before .work-off .ensures .0), c .before .before .before .before .before .before .before .before .before .before .before .before .before .before .before .before .before .before .work-off .ensures .1 .1)
