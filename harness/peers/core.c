@@ -100,19 +100,20 @@ static reply refused(machine from, uint8_t number)
         } else                                                                                     \
             mem[at] = (uint8_t)(value);                                                            \
     }
-#define READ(port)                                                                                 \
+/* A page ends at FF: the zero page of memory, the device page. */
+#define READ(page, at)                                                                             \
     {                                                                                              \
-        PUSH8(dev[port])                                                                           \
+        PUSH8(page[at])                                                                            \
         if (S)                                                                                     \
-            PUSH8(dev[(uint8_t)((port) + 1)])                                                      \
+            PUSH8(page[(uint8_t)((at) + 1)])                                                       \
     }
-#define WRITE(port, value)                                                                         \
+#define WRITE(page, at, value)                                                                     \
     {                                                                                              \
         if (S) {                                                                                   \
-            dev[port] = (uint8_t)((value) >> 8);                                                   \
-            dev[(uint8_t)((port) + 1)] = (uint8_t)(value);                                         \
+            page[at] = (uint8_t)((value) >> 8);                                                    \
+            page[(uint8_t)((at) + 1)] = (uint8_t)(value);                                          \
         } else                                                                                     \
-            dev[port] = (uint8_t)(value);                                                          \
+            page[at] = (uint8_t)(value);                                                           \
     }
 
 /* An operation in its eight modes: operands are read, keep resets the pointer, results follow. */
@@ -188,14 +189,14 @@ static inline reply run_sized(machine from, uint8_t *restrict mem, uint8_t *rest
         OPERATION(0x0d, POP(to) POP8(a), if (a) GO(to))                           /* JCN */
         OPERATION(0x0e, POP(to), OTHER16(pc) GO(to))                              /* JSR */
         OPERATION(0x0f, POP(a), OTHER(a))                                         /* STH */
-        OPERATION(0x10, POP8(to), LOAD(to))                                       /* LDZ */
-        OPERATION(0x11, POP8(to) POP(a), STORE(to, a))                            /* STZ */
+        OPERATION(0x10, POP8(to), READ(mem, to))                                  /* LDZ */
+        OPERATION(0x11, POP8(to) POP(a), WRITE(mem, to, a))                       /* STZ */
         OPERATION(0x12, POP8(to), LOAD(NEAR(to)))                                 /* LDR */
         OPERATION(0x13, POP8(to) POP(a), STORE(NEAR(to), a))                      /* STR */
         OPERATION(0x14, POP16(to), LOAD(to))                                      /* LDA */
         OPERATION(0x15, POP16(to) POP(a), STORE(to, a))                           /* STA */
-        OPERATION(0x16, POP8(port), READ(port))                                   /* DEI */
-        OPERATION(0x17, POP8(port) POP(a), WRITE(port, a))                        /* DEO */
+        OPERATION(0x16, POP8(port), READ(dev, port))                              /* DEI */
+        OPERATION(0x17, POP8(port) POP(a), WRITE(dev, port, a))                   /* DEO */
         OPERATION(0x18, POP(b) POP(a), PUSH(a + b))                               /* ADD */
         OPERATION(0x19, POP(b) POP(a), PUSH(a - b))                               /* SUB */
         OPERATION(0x1a, POP(b) POP(a), PUSH((uint32_t)a * b))                     /* MUL */

@@ -23,10 +23,9 @@ const LIKELY: [u8; 16] = [
     BRK, JCI, JMI, LIT, LIT2, LITR, POP, POP2, POPR, INC, DUP, DEO, 0x0f, 0x86, 0xff, 0xfd,
 ];
 
-/// Bytes that admission refuses wherever they are reached: JMP, JCN, JSR, STR, STA in any mode, JSI,
-/// STZ in 16-bit form.
+/// Bytes that admission refuses wherever they are reached: JMP, JCN, JSR, STR, STA in any mode, JSI.
 pub fn forbidden_bytes() -> Vec<u8> {
-    let mut bytes = vec![JSI, 0x31, 0x71, 0xb1, 0xf1];
+    let mut bytes = vec![JSI];
     for mode in (0..=0xe0).step_by(0x20) {
         bytes.extend([0x0c, 0x0d, 0x0e, 0x13, 0x15].map(|operation| operation | mode));
     }

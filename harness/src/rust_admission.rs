@@ -90,7 +90,6 @@ const fn row(byte: u8) -> Row {
     match byte & 0x1f {
         0x0f => row.pushed[1 - main] = n,
         0x0c | 0x0d | 0x0e | 0x13 | 0x15 => row.way = Way::Forbidden,
-        0x11 if n == 2 => row.way = Way::Forbidden,
         _ => {}
     }
     row

@@ -65,6 +65,28 @@ macro_rules! computed {
     };
 }
 
+/// The two operations on a page, which ends at FF.
+macro_rules! page {
+    ($load:ident, $store:ident, $page:ident) => {
+        operation!($load(core, at: pop8) {
+            core.push8::<S, R>(u16::from(core.$page[usize::from(at as u8)]));
+            if S {
+                let next = (at as u8).wrapping_add(1);
+                core.push8::<S, R>(u16::from(core.$page[usize::from(next)]));
+            }
+        });
+        operation!($store(core, at: pop8, a: pop) {
+            if S {
+                let next = (at as u8).wrapping_add(1);
+                core.$page[usize::from(at as u8)] = (a >> 8) as u8;
+                core.$page[usize::from(next)] = a as u8;
+            } else {
+                core.$page[usize::from(at as u8)] = a as u8;
+            }
+        });
+    };
+}
+
 impl Core<'_> {
     #[inline(always)]
     fn pop8<const S: bool, const R: bool>(&mut self) -> u16 {
@@ -195,28 +217,12 @@ impl Core<'_> {
         core.go::<S>(to);
     });
     operation!(sth(core, a: pop) { core.other::<S, R>(a) });
-    operation!(ldz(core, to: pop8) { core.load::<S, R>(to) });
-    operation!(stz(core, to: pop8, a: pop) { core.store::<S>(to, a) });
+    page!(ldz, stz, memory);
     operation!(ldr(core, to: pop8) { core.load::<S, R>(core.near(to)) });
     operation!(str(core, to: pop8, a: pop) { core.store::<S>(core.near(to), a) });
     operation!(lda(core, to: pop16) { core.load::<S, R>(to) });
     operation!(sta(core, to: pop16, a: pop) { core.store::<S>(to, a) });
-    operation!(dei(core, port: pop8) {
-        core.push8::<S, R>(u16::from(core.device_page[usize::from(port as u8)]));
-        if S {
-            let next = (port as u8).wrapping_add(1);
-            core.push8::<S, R>(u16::from(core.device_page[usize::from(next)]));
-        }
-    });
-    operation!(deo(core, port: pop8, a: pop) {
-        if S {
-            let next = (port as u8).wrapping_add(1);
-            core.device_page[usize::from(port as u8)] = (a >> 8) as u8;
-            core.device_page[usize::from(next)] = a as u8;
-        } else {
-            core.device_page[usize::from(port as u8)] = a as u8;
-        }
-    });
+    page!(dei, deo, device_page);
     computed!(add, push, |a, b| a.wrapping_add(b));
     computed!(sub, push, |a, b| a.wrapping_sub(b));
     computed!(mul, push, |a, b| a.wrapping_mul(b));

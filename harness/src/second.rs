@@ -1,6 +1,6 @@
-//! The second machine: step, run, load, event and frame written again from source document 000 and
-//! document 01 alone, in their order and words. It shares no code and no table with any other core;
-//! it is plain rather than fast.
+//! The second machine: step, run, load, event and frame written again from source document 000,
+//! document 01 and the requests of document 02 alone, in their order and words. It shares no code and
+//! no table with any other core; it is plain rather than fast.
 
 // Machine parts
 
@@ -131,17 +131,18 @@ fn store_memory(memory: &mut [u8], size: Size, address: u16, value: u16) {
     );
 }
 
-/// A device access uses its port and the next one modulo 256.
-fn read_port(device_page: &[u8], size: Size, port: u8) -> u16 {
-    read(device_page, size, port.into(), port.wrapping_add(1).into())
+/// A device access uses its port and the next one modulo 256, and so do LDZ and STZ their address
+/// in memory (request C-12).
+fn read_page(page: &[u8], size: Size, place: u8) -> u16 {
+    read(page, size, place.into(), place.wrapping_add(1).into())
 }
 
-fn write_port(device_page: &mut [u8], size: Size, port: u8, value: u16) {
+fn write_page(page: &mut [u8], size: Size, place: u8, value: u16) {
     write(
-        device_page,
+        page,
         size,
-        port.into(),
-        port.wrapping_add(1).into(),
+        place.into(),
+        place.wrapping_add(1).into(),
         value,
     );
 }
@@ -322,11 +323,11 @@ fn execute(record: Record, parts: &mut Parts) -> (Record, Ended) {
                 // Memory: LDZ, STZ, LDR, STR, LDA, STA
                 0x10 => {
                     let [address] = main.operands(keep, [eight]);
-                    main.push(n, load_memory(memory, n, address));
+                    main.push(n, read_page(memory, n, address as u8));
                 }
                 0x11 => {
                     let [value, address] = main.operands(keep, [n, eight]);
-                    store_memory(memory, n, address, value);
+                    write_page(memory, n, address as u8, value);
                 }
                 0x12 => {
                     let [offset] = main.operands(keep, [eight]);
@@ -347,11 +348,11 @@ fn execute(record: Record, parts: &mut Parts) -> (Record, Ended) {
                 // Device: DEI, DEO
                 0x16 => {
                     let [port] = main.operands(keep, [eight]);
-                    main.push(n, read_port(device_page, n, port as u8));
+                    main.push(n, read_page(device_page, n, port as u8));
                 }
                 0x17 => {
                     let [value, port] = main.operands(keep, [n, eight]);
-                    write_port(device_page, n, port as u8, value);
+                    write_page(device_page, n, port as u8, value);
                 }
                 // Arithmetic, low 8 or 16 bits kept: ADD, SUB, MUL, DIV, AND, ORA, EOR
                 0x18 => {
@@ -517,7 +518,7 @@ pub fn event(record: Record, parts: &mut Parts, device: u32, budget: u32) -> Rep
         return refused(record, 6);
     }
     let port = 16 * device as u8;
-    let vector = read_port(&parts.device_page, Size::Sixteen, port);
+    let vector = read_page(&parts.device_page, Size::Sixteen, port);
     if vector == 0 {
         return Reply {
             record,

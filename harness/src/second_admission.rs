@@ -1,6 +1,6 @@
-//! The second admission: the rules of document 01 written again, in their order and words, and a
-//! search that sweeps over the program until nothing changes. It shares no code and no table with
-//! any other admission; it is plain rather than fast.
+//! The second admission: the rules of document 01, with the requests of document 02, written again in
+//! their order and words, and a search that sweeps over the program until nothing changes. It shares
+//! no code and no table with any other admission; it is plain rather than fast.
 
 const FIRST: u32 = 0x0100;
 
@@ -130,16 +130,12 @@ fn by_operation(operation: u8, n: u32) -> (u32, u32, u32) {
     }
 }
 
-/// JMP, JCN, JSR, STR, STA in any mode, JSI, STZ in 16-bit form.
+/// JMP, JCN, JSR, STR, STA in any mode, JSI.
 fn forbidden(byte: u8) -> bool {
     match byte {
         0x00 | 0x20 | 0x40 | 0x80 | 0xa0 | 0xc0 | 0xe0 => false,
         0x60 => true,
-        _ => match byte & 0x1f {
-            0x0c | 0x0d | 0x0e | 0x13 | 0x15 => true,
-            0x11 => byte & 0x20 != 0,
-            _ => false,
-        },
+        _ => matches!(byte & 0x1f, 0x0c | 0x0d | 0x0e | 0x13 | 0x15),
     }
 }
 

@@ -26,7 +26,7 @@ fn literals(count: usize) -> Vec<u8> {
 
 #[test]
 fn worked_cases() {
-    let cases: [(&[u8], u8); 10] = [
+    let cases: [(&[u8], u8); 12] = [
         (&[0x40, 0xff, 0xfd], ADMITTED),
         (&literals(255), ADMITTED),
         (&literals(256), NOT_ADMITTED),
@@ -38,6 +38,9 @@ fn worked_cases() {
         (&[0x80, 0x05, 0x80, 0x03, 0x18, 0x00], ADMITTED),
         (&[0xa0, 0x01, 0x05, 0x2e, 0x00, 0x00], NOT_ADMITTED),
         (&[0x80, 0xff, 0x30, 0x00], ADMITTED),
+        // By C-12: a 16-bit STZ, and one without the address that it takes.
+        (&[0xa0, 0x12, 0x34, 0x80, 0xff, 0x31, 0x00], ADMITTED),
+        (&[0xa0, 0x12, 0x34, 0x31, 0x00], NOT_ADMITTED),
     ];
     let mut admissions = Admissions::new(0);
     for (program, answer) in cases {
@@ -152,7 +155,7 @@ fn keep_reads_need_their_bytes() {
 fn forbidden_bytes_are_refused_where_they_are_reached() {
     let mut admissions = Admissions::new(seed());
     let forbidden = forbidden_bytes();
-    assert_eq!(forbidden.len(), 45);
+    assert_eq!(forbidden.len(), 41);
     for byte in 0..=255 {
         let answer = match forbidden.contains(&byte) {
             true => NOT_ADMITTED,

@@ -83,8 +83,9 @@ fn programs_that_end_at_brk() {
             counter: 0x0106,
         },
         Case {
+            // By C-12: the second byte stands at 0000.
             program: &[0x80, 0xff, 0x30, 0x00],
-            working: &[0x00, 0x80],
+            working: &[0x00, 0x00],
             ret: &[],
             steps: 3,
             counter: 0x0104,

@@ -4,6 +4,7 @@
 
 use uxn_filter_harness::calls::{Reply, ADMIT_LIMIT, BROKE, RECORD, REFUSED, SPENT};
 use uxn_filter_harness::filters::{any_length, changed, filter};
+use uxn_filter_harness::opcodes::{BRK, LIT, RETURN, SHORT, STZ};
 use uxn_filter_harness::pair::say;
 use uxn_filter_harness::random::{seed, Random};
 use uxn_filter_harness::watch::{any_record, Watch, Watched};
@@ -114,6 +115,35 @@ fn records_of_every_length() {
     }
 }
 
+/// STZ in every mode, at every address: the second byte of a number at 00ff goes to 0000.
+#[test]
+fn stores_stay_in_the_zero_page() {
+    for mode in (0..=0xe0).step_by(0x20) {
+        for address in 0..=255 {
+            let literal = LIT | mode & RETURN;
+            let stores = [
+                literal | SHORT,
+                0x12,
+                0x34,
+                literal,
+                address,
+                STZ | mode,
+                BRK,
+            ];
+            let mut watch = Watch::admitted(&stores).expect("a filter that stores");
+            let reply = watch.frame(&[0; RECORD], 10).expect("a store");
+            assert_eq!((reply.answer, reply.steps), (BROKE, 4));
+            let mut page = [0; 256];
+            let places = [address, address.wrapping_add(1)].map(usize::from);
+            match mode & SHORT {
+                0 => page[places[0]] = 0x34,
+                _ => [page[places[0]], page[places[1]]] = [0x12, 0x34],
+            }
+            assert_eq!(watch.own.memory[..256], page, "{stores:02x?}");
+        }
+    }
+}
+
 // The watch itself: what does not hold is seen.
 
 /// A sheet that marks each address given with its depths.
@@ -187,12 +217,12 @@ fn the_watch_sees_other_depths() {
 
 #[test]
 fn the_watch_sees_a_filter_that_is_written_to() {
-    // STA at 0106, STZ2 at 00ff: a byte becomes another one.
+    // STA at 0106, STA2 at 00ff: a byte becomes another one.
     let sta = [0x80, 0x01, 0xa0, 0x01, 0x06, 0x15, 0x00];
     let what = seen(&sta, &[(0, 0, 0), (2, 1, 0), (5, 3, 0), (6, 0, 0)]);
     assert!(what.contains("before a step"), "{what}");
-    let stz2 = [0xa0, 0x00, 0x01, 0x80, 0xff, 0x31, 0x00];
-    let what = seen(&stz2, &[(0, 0, 0), (3, 2, 0), (5, 3, 0), (6, 0, 0)]);
+    let sta2 = [0xa0, 0x00, 0x01, 0xa0, 0x00, 0xff, 0x35, 0x00];
+    let what = seen(&sta2, &[(0, 0, 0), (3, 2, 0), (6, 4, 0), (7, 0, 0)]);
     assert!(what.contains("before a step"), "{what}");
     // By the last step of a budget: it is seen after the call.
     let sheet = sheet_of(&sta, &[(0, 0, 0), (2, 1, 0), (5, 3, 0), (6, 0, 0)]);

@@ -754,7 +754,7 @@ const PASSES_SHEET: [u8; 24] = [
 /// Each number, and nothing but the number; the first that applies.
 #[test]
 fn refused_sheets() {
-    let stores = assemble("LIT2 0000 LIT 10 STZ2 BRK");
+    let stores = assemble("LIT 00 LIT2 0010 STA BRK");
     let long = vec![0; ADMIT_LIMIT + 1];
     let long_and_wrong = vec![0x02; ADMIT_LIMIT + 1];
     for (code, said) in [

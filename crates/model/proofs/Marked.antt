@@ -31,11 +31,11 @@ both : (a b : Bool) {c : Bool} → T a → (a && b) ≡ c → b ≡ c
 both true b t e = e
 both false b t e = absurd t
 
--- only STZ in 8-bit form stores in memory
-allowed-stores : (byte : ℕ) → byte < 256 → T (allowed byte) → ltb 0 (shapeOf byte .stores) ≡ eqb (byte % 64) 0x11
+-- only STZ stores in memory
+allowed-stores : (byte : ℕ) → byte < 256 → T (allowed byte) → ltb 0 (shapeOf byte .stores) ≡ eqb (byte % 32) 0x11
 unfolding decoding allowed
 allowed-stores byte h t =
-    both (allowed byte) _ t (every-byte (λ b. allowed b && ltb 0 (shapeOf b .stores)) (λ b. eqb (b % 64) 0x11) tt byte h)
+    both (allowed byte) _ t (every-byte (λ b. allowed b && ltb 0 (shapeOf b .stores)) (λ b. eqb (b % 32) 0x11) tt byte h)
 
 -- only JCI and JMI jump
 allowed-jumps : (byte : ℕ) → byte < 256 → T (allowed byte) → shapeOf byte .jumps ≡ oneOf byte (0x20 ∷ 0x40 ∷ [])
@@ -44,11 +44,11 @@ allowed-jumps byte h t =
     both (allowed byte) _ t (every-byte (λ b. allowed b && shapeOf b .jumps) (λ b. oneOf b (0x20 ∷ 0x40 ∷ [])) tt byte h)
 
 -- so memory from 0100 on stays
-allowed-above : (byte : ℕ) (s : State) → byte < 256 → T (allowed byte) → InRange s → drop start (execute byte s .memory) ≡ drop start (s .memory)
-allowed-above byte s h t z = by (eqb (byte % 64) 0x11) refl
+allowed-above : (byte : ℕ) (s : State) → byte < 256 → T (allowed byte) → drop start (execute byte s .memory) ≡ drop start (s .memory)
+allowed-above byte s h t = by (eqb (byte % 32) 0x11) refl
   where
-    by : (b : Bool) → eqb (byte % 64) 0x11 ≡ b → drop start (execute byte s .memory) ≡ drop start (s .memory)
-    by true e = stz-above byte s (eqb-true _ _ e) z
+    by : (b : Bool) → eqb (byte % 32) 0x11 ≡ b → drop start (execute byte s .memory) ≡ drop start (s .memory)
+    by true e = stz-above byte s (eqb-true _ _ e)
     by false e =
         let k = ltb-false 0 (shapeOf byte .stores) (allowed-stores byte h t ∙ e) in
         ap (drop start) (execute-kept byte s .memory (omega arith))
@@ -125,7 +125,7 @@ module _ (program : List ℕ) (marks : ℕ → Mark) (assigned : Assignment prog
 
   pub above : drop start (step s .memory) ≡ drop start (s .memory)
   unfolding step
-  above = rw fetched-is (allowed-above byte s byte-low (rule .fine) (at .range))
+  above = rw fetched-is (allowed-above byte s byte-low (rule .fine))
 
   -- the mark after it is made of the pointers after it
   pointers : marked (execute byte s .work .pointer) (execute byte s .ret .pointer) ≡ markAfter byte (s .work .pointer) (s .ret .pointer)

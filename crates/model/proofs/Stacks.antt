@@ -8,7 +8,7 @@ use lib.Dec.{lit<}
 use lib.ListN.{length, getD, take, drop, length-append, length-set}
 use Rattle.model.specs.Bytes.{Bytes, readRing, sum}
 use Rattle.model.specs.Machine.{Stack, stack, push, pushed, down, popped, top, lowered, numbers, three, operands}
-use Rattle.model.proofs.Bytes.{nil-bytes, cons-bytes, tail-bytes, append-bytes, set-bytes, take-bytes, drop-bytes, read-mod, read-last, number-fits, number-byte}
+use Rattle.model.proofs.Bytes.{nil-bytes, cons-bytes, tail-bytes, append-bytes, set-bytes, take-bytes, drop-bytes, read-mod, read-last, number-fits}
 
 -- ---- pointers
 
@@ -95,10 +95,3 @@ operands-fit ns s h g i = three-fit (numbers ns (top (sum ns) s)) (numbers-fit n
     three-fit xs f (suc zero) = f 1
     three-fit xs f (suc (suc zero)) = f 2
     three-fit xs f (suc (suc (suc i))) = lit< tt
-
--- an operand of one byte on top of another operand is a byte
-pub operand-byte : (n : ℕ) (s : Stack) → Bytes (s .bytes) → getD (operands (n ∷ 1 ∷ []) s) 1 0 < 256
-unfolding operands numbers
-operand-byte n s h =
-    let bs = top (sum (n ∷ 1 ∷ [])) s in
-    number-byte (drop n bs) (drop-bytes n bs (top-bytes _ s h))

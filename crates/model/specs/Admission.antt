@@ -34,12 +34,12 @@ byteAt program at = getD program (at - start) 0
 abbrev pub Within : List ℕ → ℕ → Type 0
 Within program at = (start ≤ at) × (at < start + length program)
 
--- "it is none of JMP, JCN, JSR, STR, STA in any mode, nor JSI, nor STZ in 16-bit form"
+-- "it is none of JMP, JCN, JSR, STR, STA in any mode, nor JSI". C-12: "16-bit STZ can no longer reach 0100, so admission lets it
+-- through under the depth rules."
 unfoldable pub allowed : ℕ → Bool
 allowed byte =
     not (oneOf (byte % 32) (0x0C ∷ 0x0D ∷ 0x0E ∷ 0x13 ∷ 0x15 ∷ []))
     && not (eqb byte 0x60)
-    && not (eqb (byte % 64) 0x31)
 
 -- the depth of the stack k after an instruction, from its depth before: what it takes goes, but under keep
 abbrev pub depthAfter : ℕ → ℕ → ℕ → ℕ

@@ -126,8 +126,9 @@ starred =
     (answers Broke ∷ steps 3 ∷ admission (Refused 11) ∷ [])
     ∷ case (0xA0 ∷ 0x01 ∷ 0x05 ∷ 0x2E ∷ 0x00 ∷ 0x00 ∷ []) enough
     (answers Broke ∷ retIs (0x01 ∷ 0x04 ∷ []) ∷ counter 0x0106 ∷ [])
+    -- C-12: "The case 80 FF 30 00 now gives 00 00."
     ∷ case (0x80 ∷ 0xFF ∷ 0x30 ∷ 0x00 ∷ []) enough
-    (answers Broke ∷ workIs (0x00 ∷ 0x80 ∷ []) ∷ [])
+    (answers Broke ∷ workIs (0x00 ∷ 0x00 ∷ []) ∷ [])
     ∷ []
 
 -- "The sheet program, given 80 01 80 F2 17 00, writes just"
@@ -183,6 +184,16 @@ sentences =
     -- STA puts LIT at FFFF, and LIT2 FFFF JMP2 goes there
     ∷ case (0x80 ∷ 0x05 ∷ 0x80 ∷ 0x00 ∷ 0x11 ∷ 0x80 ∷ 0x80 ∷ 0xA0 ∷ 0xFF ∷ 0xFF ∷ 0x15 ∷ 0xA0 ∷ 0xFF ∷ 0xFF ∷ 0x2C ∷ []) enough
     (answers Broke ∷ steps 10 ∷ counter 0x0002 ∷ workIs (0x05 ∷ []) ∷ [])
+    -- C-12: "The second address of a 16-bit LDZ or STZ is now modulo 256", and "admission lets it through": LIT2 1234 LIT FF STZ2
+    -- puts 12 at 00FF and 34 at 0000, which LIT FF LDZ2 reads, and LIT2 0100 LDA finds LIT2 at 0100
+    ∷ case (0xA0 ∷ 0x12 ∷ 0x34 ∷ 0x80 ∷ 0xFF ∷ 0x31 ∷ 0x80 ∷ 0xFF ∷ 0x30 ∷ 0xA0 ∷ 0x01 ∷ 0x00 ∷ 0x14 ∷ 0x00 ∷ []) enough
+    (answers Broke ∷ workIs (0x12 ∷ 0x34 ∷ 0xA0 ∷ []) ∷ admission Admitted ∷ [])
+    -- "under the depth rules": LIT2 1234 STZ2 takes three bytes, and two are there
+    ∷ case (0xA0 ∷ 0x12 ∷ 0x34 ∷ 0x31 ∷ 0x00 ∷ []) enough
+    (admission (Refused 11) ∷ [])
+    -- "LDA, STA, LDR and STR stay modulo 65,536": LIT2 00FF LDA2
+    ∷ case (0xA0 ∷ 0x00 ∷ 0xFF ∷ 0x34 ∷ 0x00 ∷ []) enough
+    (workIs (0x00 ∷ 0xA0 ∷ []) ∷ [])
     ∷ []
 
 -- "Admission that .. takes depth 256 for 0": working depths at which ROT2 with keep, which takes six bytes and pushes six,

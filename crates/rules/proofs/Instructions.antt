@@ -27,12 +27,12 @@ target-is program i two r e f =
     let b : start + i + 2 - start ≡ i + 2 = omega arith in
     rw (f, e, a, b) (omega arith)
 
--- a byte that is none of JMP, JCN, JSR, STR, STA and JSI: only 16-bit STZ is left
+-- a byte that is none of JMP, JCN, JSR, STR and STA: only JSI is left
 pub let-through : (byte : ℕ) → (byte % 32 ≡ 0x0C → ⊥) → (byte % 32 ≡ 0x0D → ⊥) → (byte % 32 ≡ 0x0E → ⊥) → (byte % 32 ≡ 0x13 → ⊥)
-    → (byte % 32 ≡ 0x15 → ⊥) → (byte ≡ 0x60 → ⊥) → eqb (byte % 64) 0x31 ≡ not (allowed byte)
+    → (byte % 32 ≡ 0x15 → ⊥) → eqb byte 0x60 ≡ not (allowed byte)
 unfolding allowed
-let-through byte jmp jcn jsr str sta jsi =
-    rw (ne-eqb _ _ jmp, ne-eqb _ _ jcn, ne-eqb _ _ jsr, ne-eqb _ _ str, ne-eqb _ _ sta, ne-eqb _ _ jsi) (sym (Bool·not-not _))
+let-through byte jmp jcn jsr str sta =
+    rw (ne-eqb _ _ jmp, ne-eqb _ _ jcn, ne-eqb _ _ jsr, ne-eqb _ _ str, ne-eqb _ _ sta) (sym (Bool·not-not _))
 
 -- the two sides of the test
 pub depth-short : (depth taken after : ℕ) → depth < taken → 256 ≡ depthOr depth taken after

@@ -17,7 +17,7 @@ const START: u16 = 0x0100;
 // In the table, what is pushed on a stack stands two columns after what is taken from it.
 const PUSHED: usize = 2;
 
-// Not "none of JMP, JCN, JSR, STR, STA in any mode, nor JSI, nor STZ in 16-bit form".
+// Not "none of JMP, JCN, JSR, STR, STA in any mode, nor JSI".
 pub fn forbidden(byte: u8) -> bool
     ensures { λ r. ⌜ r ≡ not (allowed byte) ⌝ }
 {
@@ -43,11 +43,7 @@ pub fn forbidden(byte: u8) -> bool
         return true;
     }
     // JSI
-    if byte == 0x60 {
-        return true;
-    }
-    // STZ in 16-bit form
-    byte % 64 == 0x31
+    byte == 0x60
 }
 
 // What is gone of the bytes that an instruction takes: under keep nothing.

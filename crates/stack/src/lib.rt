@@ -75,25 +75,31 @@ pub fn store(memory: &mut [u8], address: u16, wide: bool, value: u16)
     write(memory, address, wrapping_add_u16(address, 1), wide, value);
 }
 
-// The second address of a 16-bit access to the zero page.
+// C-12: "The second address of a 16-bit LDZ or STZ is now modulo 256".
 pub fn zero_page_second(address: u16) -> u16
     ensures { λ r. ⌜ r ≡ (address + 1) % zeroPageRing ⌝ }
 {
-    wrapping_add_u16(address, 1)
+    wrapping_add_u16(address, 1) % 256
 }
 
 pub fn load_zero_page(memory: &[u8], address: u16, wide: bool) -> u16
     requires { ⌜ length (now memory) ≡ memorySize ⌝ }
     ensures { λ r. ⌜ r ≡ number (readRing zeroPageRing (now (memory .entry)) address (size wide)) ⌝ }
 {
-    read(memory, address, zero_page_second(address), wide)
+    read(memory, address % 256, zero_page_second(address), wide)
 }
 
 pub fn store_zero_page(memory: &mut [u8], address: u16, wide: bool, value: u16)
     requires { ⌜ length (now memory) ≡ memorySize ⌝ }
     ensures { λ _. ⌜ now (memory .exit) ≡ writeRing zeroPageRing (now (memory .entry)) address (word (size wide) value) ⌝ }
 {
-    write(memory, address, zero_page_second(address), wide, value);
+    write(
+        memory,
+        address % 256,
+        zero_page_second(address),
+        wide,
+        value,
+    );
 }
 
 // "A 16-bit device access uses its port and the next one modulo 256."

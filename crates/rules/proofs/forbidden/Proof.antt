@@ -25,11 +25,7 @@ unfolding allowed
 returns-5 c = rw (c .if5 .taken)
 
 returns-6 : tie.Need-returns-6
-unfolding allowed
-returns-6 c = rw (c .if6 .taken)
-
-returns-7 : tie.Need-returns-7
-returns-7 c = laws.let-through _ (c .before .before .before .before .before .if1 .left) (c .before .before .before .before .if2 .left) (c .before .before .before .if3 .left) (c .before .before .if4 .left) (c .before .if5 .left) (c .if6 .left)
+returns-6 c = laws.let-through _ (c .before .before .before .before .if1 .left) (c .before .before .before .if2 .left) (c .before .before .if3 .left) (c .before .if4 .left) (c .if5 .left)
 
 pub forbidden-spec : {M : Type 1} → statement M
 forbidden-spec =
@@ -40,5 +36,4 @@ forbidden-spec =
     returns-3
     returns-4
     returns-5
-    returns-6
-    returns-7)
+    returns-6)
