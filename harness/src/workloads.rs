@@ -78,7 +78,7 @@ const DECISIONS: &str = "
     @judge LIT f2 DEO
     JMI =again";
 
-/// One pass through most operations in most modes.
+/// One pass through most operations in most modes; a number at 00ff, which goes on at 0000.
 const STRAIGHT: &str = "
     @again
     LIT 01 LIT 02 LIT 03 ROT SWP OVR NIP DUP POP POP POP POP
@@ -95,7 +95,7 @@ const STRAIGHT: &str = "
     LIT2 5555 EOR2 LIT 21 SFT2 LIT2 0001 SUB2 LIT2 4000 GTH2 POP
     LITr 05 LITr 03 ADDr LITr 02 MULr LITr 11 EORr INCr LITr 40 LTHr POPr
     LIT2r 0500 LIT2r 0003 DIV2r LIT2r 00ff AND2r LIT2r 0010 EQU2r POPr
-    LIT 12 LIT 20 STZ LIT 20 LDZ POP LIT2 1234 LIT 22 STZ2 LIT 22 LDZ2 POP2
+    LIT 12 LIT 20 STZ LIT 20 LDZ POP LIT2 1234 LIT ff STZ2 LIT ff LDZ2 POP2
     LIT 55 LIT2 8000 STA LIT2 8000 LDA POP LIT2 aabb LIT2 8002 STA2 LIT2 8002 LDA2k POP2 POP2
     LIT 77 LIT 07 STR LIT 04 LDR POP JMI =past 00 00 @past
     LIT2 7788 LIT 07 STR2 LIT 04 LDR2 POP2 JMI =past2 00 00 @past2
