@@ -168,7 +168,7 @@ mistakes =
     (answers Spent ∷ steps 1 ∷ workIs (0x00 ∷ []) ∷ [])
     ∷ []
 
--- sentences of "Machine parts", "Instruction bytes" and "Calls" that no case above shows
+-- sentences of "Machine parts", "Instruction bytes" and "Calls", and of C-12, that no case above shows
 unfoldable pub sentences : List Case
 sentences =
     -- "Budget 0 is Spent with 0 steps."
