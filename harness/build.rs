@@ -76,9 +76,9 @@ fn compile_peers() {
     archive("peers", &objects);
 }
 
-/// The same code with each dispatch at one place: a function with an indirect jump is put where the
-/// jump ends a cache line as nearly as can be, so that the test, the fetch and the jump of a step,
-/// some 45 bytes, lie in one line. Where they lie in two, a step takes up to half as long again.
+/// The same code at one place: a function with an indirect jump, the dispatch of the steps, is put
+/// where the jump ends a line of 64 bytes as nearly as can be. Of the four places that an alignment
+/// to 16 bytes allows, this was the fastest for the library and for both peers (`README.md`).
 fn placed(code: &Path, name: &str) -> PathBuf {
     let sections: Vec<String> = dispatches(code)
         .into_iter()
