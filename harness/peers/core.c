@@ -136,6 +136,22 @@ static reply refused(machine from, uint8_t number)
     MODE(code | 0xc0, 0, 1, KEEP_R, BACK_R, take, give)                                            \
     MODE(code | 0xe0, 1, 1, KEEP_R, BACK_R, take, give)
 
+/* MUL for a chip without a multiplier, as in the library: by shifts and adds, a turn for each bit
+ * of the smaller number. */
+static inline uint16_t product(uint16_t a, uint16_t b)
+{
+    uint16_t term = a < b ? b : a;
+    uint16_t rest = a < b ? a : b;
+    uint16_t sum = 0;
+    while (rest > 0) {
+        if (rest & 1)
+            sum += term;
+        term <<= 1;
+        rest >>= 1;
+    }
+    return sum;
+}
+
 /* A run on buffers of the right lengths. */
 static inline reply run_sized(machine from, uint8_t *restrict mem, uint8_t *restrict dev,
                               uint8_t *restrict wst, uint8_t *restrict rst, uint32_t budget)
@@ -199,7 +215,7 @@ static inline reply run_sized(machine from, uint8_t *restrict mem, uint8_t *rest
         OPERATION(0x17, POP8(port) POP(a), WRITE(dev, port, a))                   /* DEO */
         OPERATION(0x18, POP(b) POP(a), PUSH(a + b))                               /* ADD */
         OPERATION(0x19, POP(b) POP(a), PUSH(a - b))                               /* SUB */
-        OPERATION(0x1a, POP(b) POP(a), PUSH((uint32_t)a * b))                     /* MUL */
+        OPERATION(0x1a, POP(b) POP(a), PUSH(product(a, b)))                       /* MUL */
         OPERATION(0x1b, POP(b) POP(a), PUSH(b ? a / b : 0))                       /* DIV */
         OPERATION(0x1c, POP(b) POP(a), PUSH(a & b))                               /* AND */
         OPERATION(0x1d, POP(b) POP(a), PUSH(a | b))                               /* ORA */

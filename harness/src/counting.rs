@@ -11,7 +11,7 @@ use std::{env, fs};
 use crate::calls::{ADMITTED, SHEET_RECORD};
 use crate::peers::{admissions, cores};
 use crate::timing::{Growth, Row, ADMITTED_LENGTHS};
-use crate::workloads::{prepared, workloads, SHAPES};
+use crate::workloads::{prepared, products, workloads, Workload, SHAPES, STEPS_A_PRODUCT};
 
 /// Steps of the two runs whose counts are subtracted: what a call costs beside its steps falls out.
 const STEPS: [u32; 2] = [20_000, 120_000];
@@ -19,6 +19,7 @@ const STEPS: [u32; 2] = [20_000, 120_000];
 /// The words of a program that is started under callgrind: this one, and what it is to do.
 const INNER: &str = "--counted";
 const RUNS: &str = "runs";
+const PRODUCTS: &str = "products";
 const ADMISSIONS: &str = "admissions";
 
 /// Does a part, or looks up what it has cost.
@@ -42,6 +43,7 @@ pub fn was_inner(words: &[String]) -> bool {
     };
     match (first.as_str(), what.as_str()) {
         (INNER, RUNS) => drop(runs(&mut count)),
+        (INNER, PRODUCTS) => drop(single_products(&mut count)),
         (INNER, ADMISSIONS) => drop(whole_admissions(&mut count)),
         _ => return false,
     }
@@ -54,34 +56,46 @@ pub fn count_runs(program: &Path) -> Option<Vec<Row>> {
     looked_up(program, RUNS, runs)
 }
 
+/// Instructions of one operation and a POP, for each product; else as `count_runs`.
+pub fn count_products(program: &Path) -> Option<Vec<Row>> {
+    looked_up(program, PRODUCTS, single_products)
+}
+
 /// Instructions of one admission, for each shape; else as `count_runs`.
 pub fn count_admissions(program: &Path) -> Option<Vec<Growth>> {
     looked_up(program, ADMISSIONS, whole_admissions)
 }
 
 fn runs(count: Count) -> Vec<Row> {
-    let cores = cores();
-    let mut rows = Vec::new();
-    for workload in workloads() {
-        let (machine, start) = prepared(&workload.program);
-        let mut owned = start.clone();
-        let mut numbers = Vec::new();
-        for core in &cores {
-            let [few, many] = STEPS.map(|steps| {
-                owned.copy_from(&start);
-                count(&mut || {
-                    let reply = (core.run)(machine, owned.lend(), steps);
-                    assert_eq!(reply.steps, steps, "{}: {}", workload.name, core.name);
-                })
-            });
-            numbers.push((many - few) / f64::from(STEPS[1] - STEPS[0]));
-        }
-        rows.push(Row {
-            name: workload.name.to_owned(),
-            numbers,
+    let workloads = workloads();
+    workloads.iter().map(|one| steps(one, count)).collect()
+}
+
+fn single_products(count: Count) -> Vec<Row> {
+    let products = products();
+    let rows = products.iter().map(|one| steps(one, count));
+    rows.map(|row| row.of_steps(STEPS_A_PRODUCT)).collect()
+}
+
+/// Instructions a step of one workload.
+fn steps(workload: &Workload, count: Count) -> Row {
+    let (machine, start) = prepared(&workload.program);
+    let mut owned = start.clone();
+    let mut numbers = Vec::new();
+    for core in cores() {
+        let [few, many] = STEPS.map(|steps| {
+            owned.copy_from(&start);
+            count(&mut || {
+                let reply = (core.run)(machine, owned.lend(), steps);
+                assert_eq!(reply.steps, steps, "{}: {}", workload.name, core.name);
+            })
         });
+        numbers.push((many - few) / f64::from(STEPS[1] - STEPS[0]));
     }
-    rows
+    Row {
+        name: workload.name.to_owned(),
+        numbers,
+    }
 }
 
 fn whole_admissions(count: Count) -> Vec<Growth> {

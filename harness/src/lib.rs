@@ -4,7 +4,8 @@
 //! - `second`: the second, independent machine; `pair`: both side by side;
 //! - `second_admission`: the second admission; `admissions`: the admissions side by side;
 //! - `watch`: demand 3, watched step by step;
-//! - `linked`: the linked programs; `compiled`: C programs over the library;
+//! - `linked`: the linked programs; `compiled`: C programs over the library; `disassembly`: its machine
+//!   code;
 //! - `listing`: programs written out to be read; `page`: blocks and tables of a page of `docs`;
 //! - `soak`: rounds that go on for minutes;
 //! - `random`, `assembler`, `opcodes`, `programs`, `filters`: where states and programs come from;
@@ -16,6 +17,7 @@ pub mod assembler;
 pub mod calls;
 pub mod compiled;
 pub mod counting;
+pub mod disassembly;
 pub mod filters;
 pub mod library;
 pub mod linked;

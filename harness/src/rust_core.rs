@@ -87,6 +87,23 @@ macro_rules! page {
     };
 }
 
+/// MUL for a chip without a multiplier, as in the library: by shifts and adds, a turn for each bit
+/// of the smaller number.
+#[inline(always)]
+fn product(a: u16, b: u16) -> u16 {
+    let mut term = a.max(b);
+    let mut rest = a.min(b);
+    let mut sum = 0u16;
+    while rest > 0 {
+        if rest & 1 == 1 {
+            sum = sum.wrapping_add(term);
+        }
+        term <<= 1;
+        rest >>= 1;
+    }
+    sum
+}
+
 impl Core<'_> {
     #[inline(always)]
     fn pop8<const S: bool, const R: bool>(&mut self) -> u16 {
@@ -225,7 +242,7 @@ impl Core<'_> {
     page!(dei, deo, device_page);
     computed!(add, push, |a, b| a.wrapping_add(b));
     computed!(sub, push, |a, b| a.wrapping_sub(b));
-    computed!(mul, push, |a, b| a.wrapping_mul(b));
+    computed!(mul, push, |a, b| product(a, b));
     computed!(div, push, |a, b| a.checked_div(b).unwrap_or(0));
     computed!(and, push, |a, b| a & b);
     computed!(ora, push, |a, b| a | b);

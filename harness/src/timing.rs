@@ -31,6 +31,12 @@ impl Row {
         };
         least(Kind::Library) / least(Kind::C)
     }
+
+    /// The same of so many steps.
+    pub fn of_steps(self, steps: f64) -> Row {
+        let numbers = self.numbers.iter().map(|number| number * steps).collect();
+        Row { numbers, ..self }
+    }
 }
 
 pub fn mean_ratio(cores: &[Core], rows: &[Row]) -> f64 {

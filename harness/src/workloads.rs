@@ -1,5 +1,5 @@
 //! The programs of the speed comparison. Each of the workloads goes on for ever; the budget ends it.
-//! The shapes are for admission, and have any length.
+//! The products are workloads of one operation each. The shapes are for admission, and have any length.
 
 use crate::assembler::assemble;
 use crate::calls::{Machine, Owned, PROGRAM_START, RECORD};
@@ -107,6 +107,22 @@ const STRAIGHT: &str = "
     JSI =routine JMI =around @routine LIT 01 POP JMP2r @around
     JMI =again";
 
+/// For the cost of MUL by shifts and adds, which hangs on the bits of the smaller operand: a name, the
+/// operands, and an operation that leaves them, with a POP of its result.
+const PRODUCTS: [(&str, &str, &str); 7] = [
+    ("ADD", "LIT ff LIT b5", "ADDk POP "),
+    ("MUL, 1 bit", "LIT ff LIT 01", "MULk POP "),
+    ("MUL, 4 bits", "LIT ff LIT 0b", "MULk POP "),
+    ("MUL, 8 bits", "LIT ff LIT b5", "MULk POP "),
+    ("ADD2", "LIT2 ffff LIT2 b5a7", "ADD2k POP2 "),
+    ("MUL2, 8 bits", "LIT2 ffff LIT2 00b5", "MUL2k POP2 "),
+    ("MUL2, 16 bits", "LIT2 ffff LIT2 b5a7", "MUL2k POP2 "),
+];
+/// Operations in one turn of such a program.
+const PRODUCTS_IN_A_TURN: usize = 16;
+/// Steps for each of them: itself, a POP, and its part of the jump back.
+pub const STEPS_A_PRODUCT: f64 = 2.0 + 1.0 / PRODUCTS_IN_A_TURN as f64;
+
 /// For the cost of a whole frame call: tests on node number and length, then a few data bytes.
 const FILTER: &str = "
     LIT 81 LDZ LIT 10 LTH JCI =drop
@@ -198,6 +214,20 @@ pub fn workloads() -> Vec<Workload> {
         .map(|&(name, text)| Workload {
             name,
             program: assemble(text),
+        })
+        .collect()
+}
+
+/// One operation again and again.
+pub fn products() -> Vec<Workload> {
+    PRODUCTS
+        .iter()
+        .map(|&(name, operands, operation)| {
+            let turn = operation.repeat(PRODUCTS_IN_A_TURN);
+            Workload {
+                name,
+                program: assemble(&format!("{operands} @again {turn} JMI =again")),
+            }
         })
         .collect()
 }

@@ -12,6 +12,7 @@ use uxn_filter_harness::calls::{
     Machine, Owned, Reply, ADMITTED, ADMIT_LIMIT, LOADED, PROGRAM_START, RECORD, SPENT,
 };
 use uxn_filter_harness::compiled::{build_c, library, printed, repository};
+use uxn_filter_harness::disassembly::{self, called, Instruction};
 use uxn_filter_harness::filters::{any_length, filter};
 use uxn_filter_harness::library as calls;
 use uxn_filter_harness::linked::{self, random_record};
@@ -322,42 +323,32 @@ fn the_archive_has_the_sections_that_the_page_says() {
     assert!(of_the_archive(&page, "unwind tables").starts_with("none"));
 }
 
-/// Which functions each function calls, by the relocations.
-fn called() -> BTreeMap<String, BTreeSet<String>> {
-    let mut command = Command::new("objdump");
-    command.args(["-d", "-r", "--no-show-raw-insn"]);
-    let listed = printed(command.arg(library()));
-    let mut called: BTreeMap<String, BTreeSet<String>> = BTreeMap::new();
-    let mut function = String::new();
-    let mut after_call = false;
-    for line in listed.lines() {
-        let start = line.strip_suffix(">:");
-        if let Some((_, name)) = start.and_then(|start| start.split_once(" <")) {
-            function = name.to_owned();
-            called.entry(function.clone()).or_default();
-        }
-        let mut words = line.split_whitespace().skip(1);
-        let (first, second) = (words.next(), words.next());
-        if let (Some("R_X86_64_PLT32"), Some(target)) = (first, second) {
-            let (name, _) = target.rsplit_once('-').expect("a name");
-            let name = name.strip_prefix(".text.").unwrap_or(name);
-            called.get_mut(&function).unwrap().insert(name.to_owned());
-        } else {
+/// Which functions each function calls.
+fn all_called() -> BTreeMap<String, BTreeSet<String>> {
+    let mut all = BTreeMap::new();
+    for (function, instructions) in disassembly::functions(library()) {
+        for one in &instructions {
+            let text = &one.text;
             // Without a relocation the call is to its own section, or through a pointer.
-            assert!(!after_call, "{function} has a call without a name");
+            let is_call = one.names().any(|name| name == "call");
+            assert!(
+                !is_call || one.to.is_some(),
+                "{function}: {text} has no name"
+            );
+            let to_system = ["syscall", "sysenter", "int"];
+            let is_to_system = one.names().any(|name| to_system.contains(&name));
+            assert!(!is_to_system, "{function}: {text}");
         }
-        after_call = first == Some("call");
-        let to_system = ["syscall", "sysenter", "int"].map(Some);
-        assert!(!to_system.contains(&first), "{function}: {line}");
+        all.insert(function, called(&instructions));
     }
-    called
+    all
 }
 
 /// One after the other, each function that calls only what has been met before.
 #[test]
 fn no_function_calls_itself_or_the_host() {
     let page = page();
-    let called = called();
+    let called = all_called();
     assert!(called.len() > declared(&header()).len(), "{called:?}");
     let needed = quoted(&of_the_archive(&page, "needs at link time"));
     let mut met: BTreeSet<String> = needed.into_iter().collect();
@@ -377,6 +368,63 @@ fn no_function_calls_itself_or_the_host() {
     ] {
         assert_eq!(of_the_archive(&page, what), "none");
     }
+}
+
+/// What multiplies, by a name that x86-64 with SSE2 has for it, or by a function that is not here to
+/// be looked at.
+fn multiplications(functions: &BTreeMap<String, Vec<Instruction>>) -> Vec<(&str, &str)> {
+    let multiplies = |one: &Instruction| {
+        let named = one
+            .names()
+            .any(|name| name.contains("mul") || name.contains("madd"));
+        let is_here = |to: &String| functions.contains_key(to) || to == "memset";
+        named || one.to.as_ref().is_some_and(|to| !is_here(to))
+    };
+    let mut found = Vec::new();
+    for (function, instructions) in functions {
+        let multiplying = instructions.iter().filter(|one| multiplies(one));
+        found.extend(multiplying.map(|one| (function.as_str(), one.text.as_str())));
+    }
+    found
+}
+
+/// C-13: the chip of the small coupler has no multiplier.
+#[test]
+fn no_function_multiplies() {
+    let functions = disassembly::functions(library());
+    assert_eq!(multiplications(&functions), [], "multiplications");
+    let row = "multiply instructions, calls of a routine that multiplies";
+    assert_eq!(of_the_archive(&page(), row), "none");
+
+    // What the run is made of was among what was looked at.
+    let mut run: BTreeSet<String> = BTreeSet::new();
+    let mut next: Vec<String> = ["uxn_step", "uxn_run", "uxn_event", "uxn_frame"]
+        .map(str::to_owned)
+        .to_vec();
+    while let Some(name) = next.pop() {
+        if run.insert(name.clone()) {
+            next.extend(called(&functions[&name]));
+        }
+    }
+    let length: usize = run.iter().map(|name| functions[name].len()).sum();
+    say(&format!("the run is {run:?}, {length} instructions"));
+    assert!(length > 2_000, "{length} instructions in {run:?}");
+}
+
+#[test]
+fn multiplications_are_found() {
+    let object = folder("integration_multiplier").join("multiplier.o");
+    let mut command = Command::new("cc");
+    command.args(["-O3", "-c", "-o"]).arg(&object);
+    printed(command.arg(repository("harness/tests/multiplier.c")));
+    let functions = disassembly::functions(&object);
+    let found: BTreeSet<&str> = multiplications(&functions)
+        .iter()
+        .map(|(function, _)| *function)
+        .collect();
+    let multiplying = functions.keys().filter(|name| !name.starts_with("not_"));
+    assert_eq!(found, multiplying.map(String::as_str).collect());
+    assert_eq!((found.len(), functions.len()), (8, 11));
 }
 
 /// Each call on a painted stack: no more than the page says, and not much less.

@@ -133,6 +133,32 @@ fn every_pair_of_operands() {
     states.pair.say_total("steps, all pairs of bytes");
 }
 
+/// MUL2 of numbers of every length in bits: the least one, the greatest one and one between them.
+#[test]
+fn products_of_every_length() {
+    let mut states = States::new();
+    let mut numbers = vec![0];
+    for bits in 1..=16 {
+        let (least, greatest) = (1 << (bits - 1), u16::MAX >> (16 - bits));
+        let between = states.random.short() & greatest | least;
+        numbers.extend([least, greatest, between]);
+    }
+    for byte in [0x3a, 0x7a, 0xba, 0xfa] {
+        for second in &numbers {
+            for top in &numbers {
+                let tops = [second.to_be_bytes(), top.to_be_bytes()].concat();
+                let machine = Machine {
+                    pc: states.counter(),
+                    wp: states.pointer(),
+                    rp: states.pointer(),
+                };
+                states.step(byte, machine, &tops);
+            }
+        }
+    }
+    states.pair.say_total("steps, products");
+}
+
 #[test]
 fn every_byte_from_random_states() {
     let mut states = States::new();

@@ -10,11 +10,26 @@ ghost use Rattle.model.specs.Instruction.Arithmetic.{DIV};
 ghost use Rattle.model.specs.Step as model;
 ghost use Rattle.alu.specs.Numbers.{arithmeticAt, comparisonAt};
 
-// MUL, "low 8 or 16 bits kept".
+// MUL, "low 8 or 16 bits kept". C-13: "by shifts and adds", a turn for each bit of the smaller number: 16 at most, 8 if it has no more bits.
 pub fn product(a: u16, b: u16) -> u16
     ensures { λ r. ⌜ r ≡ (a * b) % 65536 ⌝ }
 {
-    ((a as u32) * (b as u32) % 65536) as u16
+    let mut term = a;
+    let mut rest = b;
+    if a < b {
+        term = b;
+        rest = a;
+    }
+    let mut sum: u16 = 0;
+    // What stays: sum + term * rest is the product, modulo 65,536.
+    while rest > 0 {
+        if rest % 2 == 1 {
+            sum = wrapping_add_u16(sum, term);
+        }
+        term = term << 1;
+        rest = rest >> 1;
+    }
+    sum
 }
 
 // DIV, "by 0 gives 0".

@@ -1,13 +1,14 @@
 //! The speed comparison: the proved library beside a C core and a core in safe Rust. See README.md.
 
 use std::env;
+use std::path::Path;
 use std::process::exit;
 
-use uxn_filter_harness::counting::{count_runs, was_inner};
+use uxn_filter_harness::counting::{count_products, count_runs, was_inner};
 use uxn_filter_harness::peers::{compilers, cores, Core};
 use uxn_filter_harness::settings::Settings;
 use uxn_filter_harness::timing::{check_same_end, mean_ratio, time_calls, time_runs, Row};
-use uxn_filter_harness::workloads::workloads;
+use uxn_filter_harness::workloads::{products, workloads, STEPS_A_PRODUCT};
 
 const USAGE: &str = "compare [--rounds N] [--steps N] [--bar RATIO] [--no-callgrind]";
 /// Frame calls in a round.
@@ -37,7 +38,7 @@ fn main() {
     for line in compilers() {
         println!("{line}");
     }
-    for workload in &workloads {
+    for workload in workloads.iter().chain(&products()) {
         check_same_end(&cores, workload, steps);
     }
     println!("All cores end each workload in the same state.\n");
@@ -51,15 +52,31 @@ fn main() {
     let status = settings.judged(mean);
     println!();
 
-    if settings.callgrind {
-        let this = env::current_exe().expect("this program's own file");
-        match count_runs(&this) {
-            Some(rows) => {
-                table("instructions a step", &cores, &rows);
-                print_mean(&cores, &rows);
-            }
-            None => println!("Instructions a step are not counted: valgrind is missing."),
+    let this = env::current_exe().expect("this program's own file");
+    let counted = |count: fn(&Path) -> Option<Vec<Row>>| {
+        let rows = if settings.callgrind {
+            count(&this)
+        } else {
+            None
+        };
+        if settings.callgrind && rows.is_none() {
+            println!("Instructions are not counted: valgrind is missing.\n");
         }
+        rows
+    };
+    if let Some(rows) = counted(count_runs) {
+        table("instructions a step", &cores, &rows);
+        print_mean(&cores, &rows);
+        println!();
+    }
+
+    println!("One operation and a POP of its result; MUL by the bits of the smaller operand.");
+    let time = |product| time_runs(&cores, product, rounds, steps).of_steps(STEPS_A_PRODUCT);
+    let rows: Vec<Row> = products().iter().map(time).collect();
+    table("ns", &cores, &rows);
+    println!();
+    if let Some(rows) = counted(count_products) {
+        table("instructions", &cores, &rows);
         println!();
     }
 
