@@ -15,8 +15,8 @@ use uxn_filter_harness::timing::{
 use uxn_filter_harness::workloads::{workloads, SHAPES};
 
 /// A step of the library over one of the best C peer: in the mean of the workloads, and in each.
-const STEP_BAR: f64 = 1.5;
-const EACH_STEP_BAR: f64 = 1.65;
+const STEP_BAR: f64 = 1.45;
+const EACH_STEP_BAR: f64 = 1.6;
 
 /// An admission of the library over one in safe Rust: in the mean of shapes and lengths, and in each.
 const ADMISSION_BAR: f64 = 1.75;
