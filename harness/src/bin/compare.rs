@@ -54,12 +54,11 @@ fn main() {
 
     let this = env::current_exe().expect("this program's own file");
     let counted = |count: fn(&Path) -> Option<Vec<Row>>| {
-        let rows = if settings.callgrind {
-            count(&this)
-        } else {
-            None
-        };
-        if settings.callgrind && rows.is_none() {
+        if !settings.callgrind {
+            return None;
+        }
+        let rows = count(&this);
+        if rows.is_none() {
             println!("Instructions are not counted: valgrind is missing.\n");
         }
         rows
