@@ -78,7 +78,8 @@ fn compile_peers() {
 
 /// The same code at one place: a function with an indirect jump, the dispatch of the steps, is put
 /// where the jump ends a line of 64 bytes as nearly as can be. Of the four places that an alignment
-/// to 16 bytes allows, this was the fastest for the library and for both peers (`README.md`).
+/// to 16 bytes allows, this was the fastest in one workload, or as fast, for the library and for both
+/// peers (`README.md`).
 fn placed(code: &Path, name: &str) -> PathBuf {
     let sections: Vec<String> = dispatches(code)
         .into_iter()

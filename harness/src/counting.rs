@@ -11,7 +11,7 @@ use std::{env, fs};
 use crate::calls::{ADMITTED, SHEET_RECORD};
 use crate::peers::{admissions, cores};
 use crate::timing::{Growth, Row, ADMITTED_LENGTHS};
-use crate::workloads::{prepared, products, workloads, Workload, SHAPES, STEPS_A_PRODUCT};
+use crate::workloads::{operations, prepared, workloads, Workload, SHAPES, STEPS_AN_OPERATION};
 
 /// Steps of the two runs whose counts are subtracted: what a call costs beside its steps falls out.
 const STEPS: [u32; 2] = [20_000, 120_000];
@@ -19,7 +19,7 @@ const STEPS: [u32; 2] = [20_000, 120_000];
 /// The words of a program that is started under callgrind: this one, and what it is to do.
 const INNER: &str = "--counted";
 const RUNS: &str = "runs";
-const PRODUCTS: &str = "products";
+const OPERATIONS: &str = "operations";
 const ADMISSIONS: &str = "admissions";
 
 /// Does a part, or looks up what it has cost.
@@ -43,7 +43,7 @@ pub fn was_inner(words: &[String]) -> bool {
     };
     match (first.as_str(), what.as_str()) {
         (INNER, RUNS) => drop(runs(&mut count)),
-        (INNER, PRODUCTS) => drop(single_products(&mut count)),
+        (INNER, OPERATIONS) => drop(single_operations(&mut count)),
         (INNER, ADMISSIONS) => drop(whole_admissions(&mut count)),
         _ => return false,
     }
@@ -56,9 +56,9 @@ pub fn count_runs(program: &Path) -> Option<Vec<Row>> {
     looked_up(program, RUNS, runs)
 }
 
-/// Instructions of one operation and a POP, for each product; else as `count_runs`.
-pub fn count_products(program: &Path) -> Option<Vec<Row>> {
-    looked_up(program, PRODUCTS, single_products)
+/// Instructions of one operation and a POP, for each of them; else as `count_runs`.
+pub fn count_operations(program: &Path) -> Option<Vec<Row>> {
+    looked_up(program, OPERATIONS, single_operations)
 }
 
 /// Instructions of one admission, for each shape; else as `count_runs`.
@@ -71,10 +71,10 @@ fn runs(count: Count) -> Vec<Row> {
     workloads.iter().map(|one| steps(one, count)).collect()
 }
 
-fn single_products(count: Count) -> Vec<Row> {
-    let products = products();
-    let rows = products.iter().map(|one| steps(one, count));
-    rows.map(|row| row.of_steps(STEPS_A_PRODUCT)).collect()
+fn single_operations(count: Count) -> Vec<Row> {
+    let operations = operations();
+    let rows = operations.iter().map(|one| steps(one, count));
+    rows.map(|row| row.of_steps(STEPS_AN_OPERATION)).collect()
 }
 
 /// Instructions a step of one workload.

@@ -9,7 +9,8 @@ use crate::compiled::printed;
 pub struct Instruction {
     /// As objdump writes it: `imul   %r14d,%ebx`.
     pub text: String,
-    /// The function that it calls or goes on to, by its relocation.
+    /// What its relocation names, data of the code itself apart: the function that it calls or goes
+    /// on to.
     pub to: Option<String>,
 }
 
@@ -21,34 +22,47 @@ impl Instruction {
     }
 }
 
-/// The functions, each with its instructions.
+/// The functions, each with its instructions. What can not be read is an error, so that no part of
+/// the code is passed over.
 pub fn functions(code: &Path) -> BTreeMap<String, Vec<Instruction>> {
     let mut command = Command::new("objdump");
     command.args(["-d", "-r", "--no-show-raw-insn"]);
     let listed = printed(command.arg(code));
-    let mut functions: BTreeMap<String, Vec<Instruction>> = BTreeMap::new();
-    let mut name = String::new();
+    let mut functions: Vec<(String, Vec<Instruction>)> = Vec::new();
     for line in listed.lines() {
         let start = line.strip_suffix(">:");
-        if let Some((_, started)) = start.and_then(|start| start.split_once(" <")) {
-            name = started.to_owned();
-            functions.insert(name.clone(), Vec::new());
-        } else if let Some((_, target)) = line.split_once(": R_X86_64_PLT32\t") {
-            let (target, _) = target.rsplit_once('-').expect("a name");
-            let target = target.strip_prefix(".text.").unwrap_or(target);
-            let last = functions.get_mut(&name).and_then(|list| list.last_mut());
-            last.expect("an instruction").to = Some(target.to_owned());
+        if let Some((_, name)) = start.and_then(|start| start.split_once(" <")) {
+            functions.push((name.to_owned(), Vec::new()));
+        } else if let Some((_, relocation)) = line.split_once(": R_X86_64_") {
+            let (_, target) = relocation.split_once('\t').expect("a target");
+            let last = functions.last_mut().and_then(|(_, list)| list.last_mut());
+            last.expect("an instruction").to = function_named(target);
         } else if let Some((_, text)) = line.split_once(":\t") {
-            functions
-                .get_mut(&name)
-                .expect("a function")
-                .push(Instruction {
-                    text: text.to_owned(),
-                    to: None,
-                });
+            let one = Instruction {
+                text: text.to_owned(),
+                to: None,
+            };
+            assert!(one.names().next().is_some(), "no instruction: {line}");
+            functions.last_mut().expect("a function").1.push(one);
         }
     }
+    let count = functions.len();
+    let functions: BTreeMap<_, _> = functions.into_iter().collect();
+    assert_eq!(functions.len(), count, "two functions have one name");
     functions
+}
+
+/// The name in a relocation's target, such as `memset-0x4` or `.text.cpu::run-0x4`; none for data, as
+/// `.LCPI1_8-0x4` or `.rodata+0x10`.
+fn function_named(target: &str) -> Option<String> {
+    let name = target
+        .rsplit_once(['-', '+'])
+        .map_or(target, |(name, _)| name);
+    match name.strip_prefix(".text.") {
+        Some(own) => Some(own.to_owned()),
+        None if name.starts_with('.') => None,
+        None => Some(name.to_owned()),
+    }
 }
 
 /// Which functions these instructions call or go on to.

@@ -32,7 +32,7 @@ impl Row {
         least(Kind::Library) / least(Kind::C)
     }
 
-    /// The same of so many steps.
+    /// The numbers of so many steps, from those of one.
     pub fn of_steps(self, steps: f64) -> Row {
         let numbers = self.numbers.iter().map(|number| number * steps).collect();
         Row { numbers, ..self }

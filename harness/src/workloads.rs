@@ -1,5 +1,5 @@
 //! The programs of the speed comparison. Each of the workloads goes on for ever; the budget ends it.
-//! The products are workloads of one operation each. The shapes are for admission, and have any length.
+//! Beside them are workloads of a single operation. The shapes are for admission, and have any length.
 
 use crate::assembler::assemble;
 use crate::calls::{Machine, Owned, PROGRAM_START, RECORD};
@@ -107,9 +107,9 @@ const STRAIGHT: &str = "
     JSI =routine JMI =around @routine LIT 01 POP JMP2r @around
     JMI =again";
 
-/// For the cost of MUL by shifts and adds, which hangs on the bits of the smaller operand: a name, the
-/// operands, and an operation that leaves them, with a POP of its result.
-const PRODUCTS: [(&str, &str, &str); 7] = [
+/// Single operations, for the cost of MUL by shifts and adds, which hangs on the bits of the smaller
+/// operand: a name, the operands, and an operation that leaves them, with a POP of its result.
+const OPERATIONS: [(&str, &str, &str); 7] = [
     ("ADD", "LIT ff LIT b5", "ADDk POP "),
     ("MUL, 1 bit", "LIT ff LIT 01", "MULk POP "),
     ("MUL, 4 bits", "LIT ff LIT 0b", "MULk POP "),
@@ -119,9 +119,9 @@ const PRODUCTS: [(&str, &str, &str); 7] = [
     ("MUL2, 16 bits", "LIT2 ffff LIT2 b5a7", "MUL2k POP2 "),
 ];
 /// Operations in one turn of such a program.
-const PRODUCTS_IN_A_TURN: usize = 16;
+const OPERATIONS_IN_A_TURN: usize = 16;
 /// Steps for each of them: itself, a POP, and its part of the jump back.
-pub const STEPS_A_PRODUCT: f64 = 2.0 + 1.0 / PRODUCTS_IN_A_TURN as f64;
+pub const STEPS_AN_OPERATION: f64 = 2.0 + 1.0 / OPERATIONS_IN_A_TURN as f64;
 
 /// For the cost of a whole frame call: tests on node number and length, then a few data bytes.
 const FILTER: &str = "
@@ -219,11 +219,11 @@ pub fn workloads() -> Vec<Workload> {
 }
 
 /// One operation again and again.
-pub fn products() -> Vec<Workload> {
-    PRODUCTS
+pub fn operations() -> Vec<Workload> {
+    OPERATIONS
         .iter()
         .map(|&(name, operands, operation)| {
-            let turn = operation.repeat(PRODUCTS_IN_A_TURN);
+            let turn = operation.repeat(OPERATIONS_IN_A_TURN);
             Workload {
                 name,
                 program: assemble(&format!("{operands} @again {turn} JMI =again")),

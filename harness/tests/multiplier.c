@@ -4,6 +4,8 @@
 #include <stdint.h>
 
 uint32_t __mulsi3(uint32_t a, uint32_t b);
+/* Called through a table of addresses. */
+__attribute__((noplt)) uint32_t __muldi3(uint32_t a, uint32_t b);
 
 uint32_t product(uint32_t a, uint32_t b)
 {
@@ -46,6 +48,11 @@ uint32_t routine(uint32_t a, uint32_t b)
 uint32_t last_routine(uint32_t a, uint32_t b)
 {
     return __mulsi3(a, b);
+}
+
+uint32_t distant_routine(uint32_t a, uint32_t b)
+{
+    return __muldi3(a, b) + 1;
 }
 
 uint32_t not_eight_times(uint32_t a)

@@ -24,7 +24,7 @@ module _ (m : ℕ) where
       parts : n % m * h + n / m * h * m ≡ n * h
       parts = omega (arith, ap (λ (k : ℕ). k * h) (mod-add-div' n m), add-mul (n % m) (n / m * m) h, mul-right-comm (n / m) m h)
 
-  -- a turn leaves sum + term * rest as it is, modulo any m: the last bit of the rest times the term goes to the sum, the term is doubled, the
+  -- a turn leaves sum + term * rest as it is, modulo any m: the lowest bit of the rest times the term goes to the sum, the term is doubled, the
   -- rest halved
   pub turn : (sum term rest next : ℕ) → next % m ≡ (sum + term * (rest % 2)) % m → (next + term * 2 % m * (rest / 2)) % m ≡ (sum + term * rest) % m
   turn sum term rest next h =
@@ -70,7 +70,7 @@ turns-fewer zero rest p h = absurd (omega arith)
 turns-fewer (suc k) zero p h = absurd (omega arith)
 turns-fewer (suc k) (suc rest) p h = omega (arith, turns-enough k (suc rest / 2) (omega arith))
 
--- a last bit that is not 1 is 0
+-- a lowest bit that is not 1 is 0
 pub even : (n : ℕ) → (n % 2 ≡ 1 → ⊥) → n % 2 ≡ 0
 even n h = omega (arith, h)
 

@@ -4,11 +4,11 @@ use std::env;
 use std::path::Path;
 use std::process::exit;
 
-use uxn_filter_harness::counting::{count_products, count_runs, was_inner};
+use uxn_filter_harness::counting::{count_operations, count_runs, was_inner};
 use uxn_filter_harness::peers::{compilers, cores, Core};
 use uxn_filter_harness::settings::Settings;
 use uxn_filter_harness::timing::{check_same_end, mean_ratio, time_calls, time_runs, Row};
-use uxn_filter_harness::workloads::{products, workloads, STEPS_A_PRODUCT};
+use uxn_filter_harness::workloads::{operations, workloads, STEPS_AN_OPERATION};
 
 const USAGE: &str = "compare [--rounds N] [--steps N] [--bar RATIO] [--no-callgrind]";
 /// Frame calls in a round.
@@ -38,7 +38,7 @@ fn main() {
     for line in compilers() {
         println!("{line}");
     }
-    for workload in workloads.iter().chain(&products()) {
+    for workload in workloads.iter().chain(&operations()) {
         check_same_end(&cores, workload, steps);
     }
     println!("All cores end each workload in the same state.\n");
@@ -70,11 +70,11 @@ fn main() {
     }
 
     println!("One operation and a POP of its result; MUL by the bits of the smaller operand.");
-    let time = |product| time_runs(&cores, product, rounds, steps).of_steps(STEPS_A_PRODUCT);
-    let rows: Vec<Row> = products().iter().map(time).collect();
+    let time = |operation| time_runs(&cores, operation, rounds, steps).of_steps(STEPS_AN_OPERATION);
+    let rows: Vec<Row> = operations().iter().map(time).collect();
     table("ns", &cores, &rows);
     println!();
-    if let Some(rows) = counted(count_products) {
+    if let Some(rows) = counted(count_operations) {
         table("instructions", &cores, &rows);
         println!();
     }
