@@ -36,7 +36,8 @@ pub fn functions(code: &Path) -> BTreeMap<String, Vec<Instruction>> {
         } else if let Some((_, relocation)) = line.split_once(": R_X86_64_") {
             let (_, target) = relocation.split_once('\t').expect("a target");
             let last = functions.last_mut().and_then(|(_, list)| list.last_mut());
-            last.expect("an instruction").to = function_named(target);
+            let one = last.expect("an instruction");
+            one.to = one.to.take().or(function_named(target));
         } else if let Some((_, text)) = line.split_once(":\t") {
             let one = Instruction {
                 text: text.to_owned(),

@@ -55,6 +55,23 @@ uint32_t distant_routine(uint32_t a, uint32_t b)
     return __muldi3(a, b) + 1;
 }
 
+/* A routine that is here, and multiplies by shifts and adds itself. */
+__attribute__((noinline)) uint16_t __mulhi3(uint16_t a, uint16_t b)
+{
+    uint16_t sum = 0;
+    for (; b > 0; b >>= 1) {
+        if (b & 1)
+            sum += a;
+        a <<= 1;
+    }
+    return sum;
+}
+
+uint16_t near_routine(uint16_t a, uint16_t b)
+{
+    return (uint16_t)(__mulhi3(a, b) + 1);
+}
+
 uint32_t not_eight_times(uint32_t a)
 {
     return a * 8;
@@ -68,10 +85,10 @@ uint32_t not_five_times(uint32_t a)
 uint16_t not_by_shifts_and_adds(uint16_t a, uint16_t b)
 {
     uint16_t sum = 0;
-    for (; b > 0; b >>= 1) {
-        if (b & 1)
-            sum += a;
+    while (b > 0) {
+        sum += b & 1 ? a : 0;
         a <<= 1;
+        b >>= 1;
     }
     return sum;
 }
