@@ -16,8 +16,9 @@
  * Every call ends: a run takes at most `budget` instructions. What each call replies and leaves in every lent byte is proved
  * for every input (crates/capi/src/lib.rt has the contracts, crates/model/specs the definitions that they cite).
  *
- * The library has six calls. At the end of this file stands a struct, uxn_host, that holds record and buffers of a machine, with
- * functions that make the calls on it. A host that does not use it pays nothing for it.
+ * The library has eight calls: five on a machine, the admission of a program, and two moves of stored sheets. At the end of this
+ * file stands a struct, uxn_host, that holds record and buffers of a machine, with functions that make the calls on it. A host that
+ * does not use it pays nothing for it.
  */
 #ifndef UXN_FILTER_H
 #define UXN_FILTER_H
@@ -26,8 +27,10 @@
 #include <stdint.h>
 
 /* The version of this interface. Every change of a call, a struct or a constant of this file raises it. Version 1 had no such
-   name: there the device of uxn_event was a uint8_t, so that C cut 259 down to 3, and there was no uxn_host. */
-#define UXN_FILTER_VERSION 2
+   name: there the device of uxn_event was a uint8_t, so that C cut 259 down to 3, and there was no uxn_host. In version 2 a sheet
+   had four bytes for each program byte; since version 3 it has eight, and uxn_widen_sheet and uxn_narrow_sheet move sheets from
+   one form to the other. */
+#define UXN_FILTER_VERSION 3
 
 #ifdef __cplusplus
 extern "C" {
@@ -48,7 +51,8 @@ typedef struct {
 #define UXN_SPENT 4   /* the budget is used up and the last instruction was not BRK */
 #define UXN_IGNORED 5 /* uxn_event: the device's vector is 0; nothing changed */
 
-/* uxn_reply.number, where the answer is UXN_REFUSED, and what uxn_admit answers: the smallest that applies to the call */
+/* uxn_reply.number, where the answer is UXN_REFUSED, and what uxn_admit answers: the smallest that applies to the call.
+   uxn_written.number: the first that applies, in the order that the call names */
 #define UXN_MEMORY_LENGTH 1         /* memory is not 65,536 bytes */
 #define UXN_DEVICE_PAGE_LENGTH 2    /* the device page is not 256 bytes */
 #define UXN_WORKING_STACK_LENGTH 3  /* the working stack is not 256 bytes */
@@ -58,8 +62,11 @@ typedef struct {
 #define UXN_RECORD_LENGTH 7         /* uxn_frame: the record is not 64 bytes */
 #define UXN_RECORD_FORM 8           /* uxn_frame: the record's length byte is above 62, or a byte past its data is not 0 */
 #define UXN_ADMIT_LENGTH 9          /* uxn_admit: the program is above 4,096 bytes */
-#define UXN_SHEET_LENGTH 10         /* uxn_admit: the sheet is not four times the program's length */
-#define UXN_NO_ASSIGNMENT 11        /* uxn_admit: no depths obey the admission rules */
+#define UXN_SHEET_LENGTH 10         /* uxn_admit: the sheet is not eight times the program's length */
+#define UXN_NO_ASSIGNMENT 11        /* uxn_admit: no depths and routines obey the admission rules */
+#define UXN_OUTPUT_LENGTH 13        /* uxn_widen_sheet, uxn_narrow_sheet: the output is too short */
+#define UXN_SHEET_FORM 18           /* uxn_widen_sheet, uxn_narrow_sheet: the sheet is not of the form that is moved */
+#define UXN_SHEET_ROUTINE 19        /* uxn_narrow_sheet: a marked record has another routine than 0x0100 */
 
 typedef struct {
     uxn_machine machine; /* the record afterwards: give it to the next call */
@@ -94,11 +101,36 @@ uxn_reply uxn_frame(uxn_machine machine, uint8_t *memory, size_t memory_length, 
                     uint8_t *working, size_t working_length, uint8_t *ret, size_t ret_length, const uint8_t *record,
                     size_t record_length, uint32_t budget);
 
-/* Admission of a program into a sheet, which has four bytes for each program byte, the first four for address 0x0100: 1 if the
-   program reaches the address and else 0, the depths of the working and of the return stack there, the program byte. Answers 0
-   if the program is admitted; the sheet is written then. Else it answers the number: 5, 9 and 10 leave the sheet as found, 11
-   leaves it all zero. The program stays as it is; the two must not overlap, and no pointer may be null. */
+/* Admission of a program into a sheet, which has eight bytes for each program byte, the first eight for address 0x0100: 1 if the
+   program reaches the address and else 0, the depths of the working and of the return stack there, the program byte, the routine,
+   its high byte first, and two zeros. The routine is 0x0100, or the target of the JSI that led there; where an address is not
+   reached, depths and routine are 0. Answers 0 if the program is admitted; the sheet is written then. Else it answers the number:
+   5, 9 and 10 leave the sheet as found, 11 leaves it all zero. The program stays as it is; the two must not overlap, and no pointer
+   may be null. */
 uint8_t uxn_admit(const uint8_t *program, size_t program_length, uint8_t *sheet, size_t sheet_length);
+
+/* What a call that writes to a lent output replies. */
+typedef struct {
+    size_t length;  /* bytes written, from the start of the output on; 0 if refused */
+    uint32_t line;  /* 0 in the calls below */
+    uint8_t number; /* 0 unless refused */
+} uxn_written;
+
+/* The two moves of sheets. In the old form, that of version 2, a record has four bytes: mark, depths of the working and of the
+   return stack, program byte. In the new form it has eight: these four, the routine, its high byte first, and two zeros. The sheet
+   stays as it is, and so do the bytes of the output past those written. A sheet of no bytes is moved to no bytes. A refusal leaves
+   the output as found. The two must not overlap, and no pointer may be null.
+
+   A sheet is wrong, number 18, if its last record is not whole, a mark is above 1, or a byte of an unmarked record is not 0 but for
+   its program byte; in the new form also if a marked record has routine 0 or its last two bytes are not 0. The depths of marked
+   records and program bytes may be any. Every record is looked at before another number is given. */
+
+/* From the old form to the new one, twice as long: marked records get the routine 0x0100, the others 0. Refusals: 18, then 13. */
+uxn_written uxn_widen_sheet(const uint8_t *sheet, size_t sheet_length, uint8_t *output, size_t output_length);
+
+/* Back, half as long: the first four bytes of each record. Refusals: 18, then 19 if a marked record has another routine than
+   0x0100, then 13. */
+uxn_written uxn_narrow_sheet(const uint8_t *sheet, size_t sheet_length, uint8_t *output, size_t output_length);
 
 /*
  * The usual host, in C99 and later and in C++. A uxn_host is a machine: its record, and its four buffers of the right lengths.

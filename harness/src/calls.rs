@@ -8,8 +8,11 @@ pub const PROGRAM_START: u16 = 0x0100;
 pub const PROGRAM_LIMIT: usize = MEMORY - PROGRAM_START as usize;
 /// A longer program is not admitted.
 pub const ADMIT_LIMIT: usize = 4_096;
-/// Bytes of a sheet for each program byte.
-pub const SHEET_RECORD: usize = 4;
+/// Bytes of a sheet for each program byte: mark, working depth, return depth, the program byte, the
+/// routine (two bytes), two zeros.
+pub const SHEET_RECORD: usize = 8;
+/// The same in the old form of a sheet.
+pub const OLD_RECORD: usize = 4;
 
 /// Numbers that are no device, 16 and up: ends, and some that would be 3, or have the port of
 /// device 3, if only their low 8, 16, 24 or 31 bits were looked at or 16 times the number wrapped.
@@ -56,7 +59,18 @@ pub struct Reply {
     pub verdict: u8,
 }
 
+/// What a call that writes to a lent output replies: how many bytes it wrote, a line, the number of
+/// the refusal or 0.
+#[repr(C)]
+#[derive(Clone, Copy, PartialEq, Eq, Debug)]
+pub struct Written {
+    pub length: usize,
+    pub line: u32,
+    pub number: u8,
+}
+
 const _: () = assert!(size_of::<Machine>() == 4 && size_of::<Reply>() == 12);
+const _: () = assert!(size_of::<Written>() == 16);
 
 /// A refusal: its number, 0 steps, verdict 0 and the record as it was given.
 pub fn refused(machine: Machine, number: u8) -> Reply {

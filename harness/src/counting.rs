@@ -16,6 +16,10 @@ use crate::workloads::{operations, prepared, workloads, Workload, SHAPES, STEPS_
 /// Steps of the two runs whose counts are subtracted: what a call costs beside its steps falls out.
 const STEPS: [u32; 2] = [20_000, 120_000];
 
+/// Callgrind counts a string instruction that fills memory once for each byte, and it costs far less.
+/// So the C library, for any length, fills by stores.
+const FILL_BY_STORES: &str = "glibc.cpu.x86_rep_stosb_threshold=1000000000";
+
 /// The words of a program that is started under callgrind: this one, and what it is to do.
 const INNER: &str = "--counted";
 const RUNS: &str = "runs";
@@ -137,6 +141,7 @@ fn looked_up<T>(program: &Path, what: &str, parts: fn(Count) -> T) -> Option<T> 
 fn callgrind(program: &Path, what: &str) -> Option<Vec<f64>> {
     let written = env::temp_dir().join(format!("uxn-filter-callgrind-{}-{what}", id()));
     let started = Command::new("valgrind")
+        .env("GLIBC_TUNABLES", FILL_BY_STORES)
         .args(["--tool=callgrind", "--combine-dumps=yes"])
         .arg("--toggle-collect=uxn_filter_counted")
         .arg("--dump-after=uxn_filter_counted")

@@ -1,6 +1,7 @@
-//! The six calls of the proved library, `libcapi.a`.
+//! The calls of the proved library, `libcapi.a`.
 
 use crate::c_call;
+use crate::calls::Written;
 
 c_call!(load = "uxn_load", slice program);
 c_call!(step = "uxn_step");
@@ -25,6 +26,45 @@ pub fn admit(program: &[u8], sheet: &mut [u8]) -> u8 {
             program.len(),
             sheet.as_mut_ptr(),
             sheet.len(),
+        )
+    }
+}
+
+type Move = unsafe extern "C" fn(*const u8, usize, *mut u8, usize) -> Written;
+
+extern "C" {
+    fn uxn_widen_sheet(
+        sheet: *const u8,
+        sheet_length: usize,
+        output: *mut u8,
+        output_length: usize,
+    ) -> Written;
+    fn uxn_narrow_sheet(
+        sheet: *const u8,
+        sheet_length: usize,
+        output: *mut u8,
+        output_length: usize,
+    ) -> Written;
+}
+
+/// A sheet of the old form, moved to the new one.
+pub fn widen_sheet(sheet: &[u8], output: &mut [u8]) -> Written {
+    moved(uxn_widen_sheet, sheet, output)
+}
+
+/// And back.
+pub fn narrow_sheet(sheet: &[u8], output: &mut [u8]) -> Written {
+    moved(uxn_narrow_sheet, sheet, output)
+}
+
+fn moved(call: Move, sheet: &[u8], output: &mut [u8]) -> Written {
+    // Both pointers are those of live slices with their lengths, which do not overlap.
+    unsafe {
+        call(
+            sheet.as_ptr(),
+            sheet.len(),
+            output.as_mut_ptr(),
+            output.len(),
         )
     }
 }

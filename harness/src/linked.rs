@@ -49,6 +49,17 @@ pub fn quick() -> Vec<u8> {
     assemble("LIT 82 LDZ LIT f2 DEO BRK")
 }
 
+/// Passes a frame whose first two data bytes have the same high half, which a routine finds out with
+/// the help of another one.
+pub fn calling() -> Vec<u8> {
+    assemble(
+        "LIT 82 JSI =high LIT 10 STZ
+        LIT 83 JSI =high LIT 10 LDZ EQU LIT f2 DEO BRK
+        @high LDZ JSI =shift JMP2r
+        @shift LIT 04 SFT JMP2r",
+    )
+}
+
 // Programs and files
 
 pub fn program(name: &str) -> PathBuf {

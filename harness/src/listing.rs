@@ -172,17 +172,32 @@ pub fn code(listing: &[Listed]) -> Vec<u8> {
     code
 }
 
-/// The sheet that marks the lines with brackets, each with its depths.
+/// The addresses that are called by lines which are reached.
+fn routines(listing: &[Listed]) -> Vec<u16> {
+    let reached = listing.iter().filter(|line| line.depths.is_some());
+    let calls = reached.filter(|line| line.instruction == "JSI");
+    calls.filter_map(|call| call.operand).collect()
+}
+
+/// The sheet that marks the lines with brackets, each with its depths. A line that is called begins a
+/// routine, which goes on to the next such line; those before the first are in routine 0100.
 pub fn sheet(listing: &[Listed]) -> Vec<u8> {
-    let code = code(listing);
-    let mut sheet: Vec<u8> = code.iter().flat_map(|&byte| [0, 0, 0, byte]).collect();
+    let records = code(listing).into_iter();
+    let mut records: Vec<[u8; SHEET_RECORD]> =
+        records.map(|byte| [0, 0, 0, byte, 0, 0, 0, 0]).collect();
+    let routines = routines(listing);
+    let mut routine = PROGRAM_START;
     for listed in listing {
-        let at = SHEET_RECORD * usize::from(listed.address - PROGRAM_START);
+        if routines.contains(&listed.address) {
+            routine = listed.address;
+        }
         if let Some(Depths { working, ret }) = listed.depths {
-            sheet[at..at + 3].copy_from_slice(&[1, working as u8, ret as u8]);
+            let [high, low] = routine.to_be_bytes();
+            let record = &mut records[usize::from(listed.address - PROGRAM_START)];
+            *record = [1, working as u8, ret as u8, record[3], high, low, 0, 0];
         }
     }
-    sheet
+    records.concat()
 }
 
 #[cfg(test)]
@@ -204,8 +219,8 @@ mod tests {
         let comments: Vec<&str> = listing.iter().map(|line| &*line.comment).collect();
         let said = ["a comment: 02", "", "", "", "back", "not reached", ""];
         assert_eq!(comments, said);
-        let marked = |place, working, ret| [1, working, ret, bytes[place]];
-        let unmarked = |place| [0, 0, 0, bytes[place]];
+        let marked = |place, working, ret| [1, working, ret, bytes[place], 1, 0, 0, 0];
+        let unmarked = |place| [0, 0, 0, bytes[place], 0, 0, 0, 0];
         let records = [
             marked(0, 0, 0),
             unmarked(1),
@@ -221,6 +236,28 @@ mod tests {
             marked(11, 6, 1),
         ];
         assert_eq!(sheet(&listing), records.as_flattened());
+    }
+
+    #[test]
+    fn lines_that_are_called_begin_a_routine() {
+        let listing = listing(
+            "0100  60 00 04  JSI 0107       []\n\
+             0103  60 00 03  JSI 0109       [a]\n\
+             0106  00  BRK\n\
+             0107  01  INC                  [a | back*]\n\
+             0108  6C  JMP2r                [a | back*]\n\
+             0109  00  BRK                  [a | back*]\n",
+        );
+        let marked = |at: usize| {
+            let record = &sheet(&listing)[8 * at..8 * at + 8];
+            (record[0], u16::from_be_bytes([record[4], record[5]]))
+        };
+        let found = [0, 1, 3, 6, 7, 8, 9].map(marked);
+        let routines = [0x0100, 0, 0x0100, 0, 0x0107, 0x0107, 0x0109];
+        assert_eq!(
+            found,
+            routines.map(|routine| (u8::from(routine > 0), routine))
+        );
     }
 
     fn wrong(text: &str) {

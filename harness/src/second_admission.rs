@@ -2,7 +2,16 @@
 //! their order and words, and a search that sweeps over the program until nothing changes. It shares
 //! no code and no table with any other admission; it is plain rather than fast.
 
+use std::collections::BTreeMap;
+
 const FIRST: u32 = 0x0100;
+
+const BRK: u8 = 0x00;
+const JCI: u8 = 0x20;
+const JMI: u8 = 0x40;
+const JSI: u8 = 0x60;
+/// JMP in 16-bit return form without keep: the return from a routine.
+const RETURN: u8 = 0x6c;
 
 /// A number for each stack: its depth, or bytes taken or pushed. Wider than a byte, so that 256 is
 /// not 0.
@@ -22,8 +31,18 @@ pub struct Sizes {
     pub length: u32,
 }
 
-/// The depth marked at each address, from 0100 on; none where it is not marked.
-type Marks = Vec<Option<Depths>>;
+/// What an address is marked with. Its routine is "0100, or the JSI target that led there".
+#[derive(Clone, Copy, PartialEq, Eq, Debug)]
+struct Mark {
+    depths: Depths,
+    routine: u32,
+}
+
+/// The mark of each address, from 0100 on; none where it is not marked.
+type Marks = Vec<Option<Mark>>;
+
+/// The working depth with which a routine is left, for each that has a marked return.
+type Exits = BTreeMap<u32, u32>;
 
 // Instruction bytes
 
@@ -41,26 +60,22 @@ pub fn sizes(byte: u8) -> Sizes {
         },
     };
     match byte {
-        // BRK
-        0x00 => Sizes {
+        BRK => Sizes {
             taken: NONE,
             pushed: NONE,
             length: 1,
         },
-        // JCI
-        0x20 => Sizes {
+        JCI => Sizes {
             taken: Depths { working: 1, ret: 0 },
             pushed: NONE,
             length: 3,
         },
-        // JMI
-        0x40 => Sizes {
+        JMI => Sizes {
             taken: NONE,
             pushed: NONE,
             length: 3,
         },
-        // JSI
-        0x60 => Sizes {
+        JSI => Sizes {
             taken: NONE,
             pushed: Depths { working: 0, ret: 2 },
             length: 3,
@@ -130,13 +145,9 @@ fn by_operation(operation: u8, n: u32) -> (u32, u32, u32) {
     }
 }
 
-/// JMP, JCN, JSR, STR, STA in any mode, JSI.
+/// JMP, JCN, JSR, STR, STA in any mode, but for the return.
 fn forbidden(byte: u8) -> bool {
-    match byte {
-        0x00 | 0x20 | 0x40 | 0x80 | 0xa0 | 0xc0 | 0xe0 => false,
-        0x60 => true,
-        _ => matches!(byte & 0x1f, 0x0c | 0x0d | 0x0e | 0x13 | 0x15),
-    }
+    byte != RETURN && matches!(byte & 0x1f, 0x0c | 0x0d | 0x0e | 0x13 | 0x15)
 }
 
 // Admission rules
@@ -163,9 +174,42 @@ fn depth_after(before: u32, taken: u32, keep: bool, pushed: u32) -> Option<u32> 
     Some(after)
 }
 
-/// The rules at an address that is marked with `before`: the addresses where the instruction may
-/// go on and the depths after it, or nothing if a rule fails.
-fn goes_on(program: &[u8], address: u32, before: Depths) -> Option<(Vec<u32>, Depths)> {
+/// The return depth at a routine's own address. An address in the routine is marked after that one.
+fn floor(marks: &Marks, routine: u32) -> u32 {
+    let entry = marks[(routine - FIRST) as usize];
+    entry.expect("the mark of a routine").depths.ret
+}
+
+/// The marked returns, by the rule that each "stands only at the floor, never in routine 0100, and
+/// leaves with one working depth for the whole routine"; nothing if it fails.
+fn exits(program: &[u8], marks: &Marks) -> Option<Exits> {
+    let mut exits = Exits::new();
+    for (mark, &byte) in marks.iter().zip(program) {
+        let &Some(Mark { depths, routine }) = mark else {
+            continue;
+        };
+        if byte != RETURN {
+            continue;
+        }
+        if routine == FIRST || depths.ret != floor(marks, routine) {
+            return None;
+        }
+        if *exits.entry(routine).or_insert(depths.working) != depths.working {
+            return None;
+        }
+    }
+    Some(exits)
+}
+
+/// The rules at an address that is marked with `mark`: the addresses where the instruction may go
+/// on, and what they are to be marked with; nothing if a rule fails.
+fn goes_on(
+    program: &[u8],
+    marks: &Marks,
+    exits: &Exits,
+    address: u32,
+    mark: Mark,
+) -> Option<Vec<(u32, Mark)>> {
     let byte = byte_at(program, address);
     let Sizes {
         taken,
@@ -176,11 +220,16 @@ fn goes_on(program: &[u8], address: u32, before: Depths) -> Option<(Vec<u32>, De
     if !in_program(program, last) || forbidden(byte) {
         return None;
     }
+    let Mark { depths, routine } = mark;
+    // "In it only 6C takes return bytes below the floor"; with keep they are taken too.
+    if byte != RETURN && depths.ret < floor(marks, routine) + taken.ret {
+        return None;
+    }
     // LIT has bit 7 too, but takes nothing.
     let keep = byte & 0x80 != 0;
     let after = Depths {
-        working: depth_after(before.working, taken.working, keep, pushed.working)?,
-        ret: depth_after(before.ret, taken.ret, keep, pushed.ret)?,
+        working: depth_after(depths.working, taken.working, keep, pushed.working)?,
+        ret: depth_after(depths.ret, taken.ret, keep, pushed.ret)?,
     };
     let next = address + length;
     let target = || {
@@ -188,34 +237,48 @@ fn goes_on(program: &[u8], address: u32, before: Depths) -> Option<(Vec<u32>, De
         let low = u32::from(byte_at(program, address + 2));
         (next + 256 * high + low) % 65_536
     };
-    let addresses = match byte {
-        0x00 => vec![],
-        0x20 => vec![next, target()],
-        0x40 => vec![target()],
-        _ => vec![next],
-    };
-    let inside = addresses.iter().all(|&to| in_program(program, to));
-    inside.then_some((addresses, after))
+    let on = |to, depths, routine| (to, Mark { depths, routine });
+    Some(match byte {
+        BRK | RETURN => vec![],
+        JCI => vec![on(next, after, routine), on(target(), after, routine)],
+        JMI => vec![on(target(), after, routine)],
+        JSI => {
+            let called = target();
+            let mut marked = vec![on(called, after, called)];
+            // "The address after the call is marked with that depth and the caller's return depth
+            // and routine, if the routine has a marked return; else the call doesn't mark it."
+            if let Some(&working) = exits.get(&called) {
+                let ret = depths.ret;
+                marked.push(on(next, Depths { working, ret }, routine));
+            }
+            marked
+        }
+        _ => vec![on(next, after, routine)],
+    })
 }
 
 /// Just the addresses reached from 0100, if they can be marked by the rules: 0100 is marked, and
 /// the addresses where marked ones go on, until there are no more.
 fn smallest_assignment(program: &[u8]) -> Option<Marks> {
     let mut marks = vec![None; program.len()];
-    marks[0] = Some(NONE);
+    marks[0] = Some(Mark {
+        depths: NONE,
+        routine: FIRST,
+    });
     loop {
         let before = marks.clone();
+        let exits = exits(program, &marks)?;
         for place in 0..program.len() {
-            let Some(depths) = marks[place] else {
+            let Some(mark) = marks[place] else {
                 continue;
             };
-            let (addresses, after) = goes_on(program, FIRST + place as u32, depths)?;
-            for address in addresses {
-                let mark = &mut marks[(address - FIRST) as usize];
-                match *mark {
-                    None => *mark = Some(after),
-                    Some(there) if there == after => {}
-                    Some(_) => return None,
+            for (to, marked) in goes_on(program, &marks, &exits, FIRST + place as u32, mark)? {
+                if !in_program(program, to) {
+                    return None;
+                }
+                // "No address has two routines", and none has two depths of a stack.
+                if *marks[(to - FIRST) as usize].get_or_insert(marked) != marked {
+                    return None;
                 }
             }
         }
@@ -235,7 +298,7 @@ pub fn admit(program: &[u8], sheet: &mut [u8]) -> u8 {
     if program.len() > 4_096 {
         return 9;
     }
-    if sheet.len() != 4 * program.len() {
+    if sheet.len() != 8 * program.len() {
         return 10;
     }
     let Some(marks) = smallest_assignment(program) else {
@@ -243,11 +306,25 @@ pub fn admit(program: &[u8], sheet: &mut [u8]) -> u8 {
         return 11;
     };
     for (place, mark) in marks.into_iter().enumerate() {
+        let byte = program[place];
         let record = match mark {
-            None => [0, 0, 0, program[place]],
-            Some(Depths { working, ret }) => [1, working as u8, ret as u8, program[place]],
+            None => [0, 0, 0, byte, 0, 0, 0, 0],
+            Some(Mark { depths, routine }) => {
+                let Depths { working, ret } = depths;
+                let (high, low) = (routine / 256, routine % 256);
+                [
+                    1,
+                    working as u8,
+                    ret as u8,
+                    byte,
+                    high as u8,
+                    low as u8,
+                    0,
+                    0,
+                ]
+            }
         };
-        sheet[4 * place..4 * place + 4].copy_from_slice(&record);
+        sheet[8 * place..8 * place + 8].copy_from_slice(&record);
     }
     0
 }

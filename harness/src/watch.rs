@@ -1,6 +1,7 @@
 //! Demand 3, watched: a filter that the library has loaded gets a list of frame calls. Each call is
 //! made once as a whole and once step by step from the same state; before each step counter,
-//! pointers, stacks and the filter's bytes are held against the sheet.
+//! pointers, stacks and the filter's bytes are held against the sheet. The subroutine calls that are
+//! open are kept: they say in which routine the counter is, and where each 6C has to land.
 
 use crate::admissions::shown;
 use crate::calls::{
@@ -8,6 +9,7 @@ use crate::calls::{
     RECORD, SHEET_RECORD, SPENT,
 };
 use crate::library;
+use crate::opcodes::{JMP2R, JSI};
 use crate::random::Random;
 use crate::second_admission::{sizes, Sizes};
 
@@ -29,6 +31,18 @@ pub struct Watch {
     stepped: Owned,
     /// Steps before each of which everything was looked at.
     pub steps: u64,
+    /// Steps among them with a 6C that landed just after its call.
+    pub returns: u64,
+    /// The most calls that were open at a step.
+    pub deepest: usize,
+}
+
+/// A subroutine call that is open.
+#[derive(Clone, Copy)]
+struct OpenCall {
+    routine: u16,
+    /// The address just after the JSI.
+    back: u16,
 }
 
 /// Number 7 or 8, if the record earns it on right buffers.
@@ -76,6 +90,8 @@ impl Watch {
             stepped: own.clone(),
             own,
             steps: 0,
+            returns: 0,
+            deepest: 0,
         })
     }
 
@@ -132,11 +148,13 @@ impl Watch {
             wp: 0,
             rp: 0,
         };
+        let mut open = Vec::new();
         let mut steps = 0;
         let mut answer = SPENT;
         while steps < budget && answer == SPENT {
-            self.before_step(machine)?;
+            let byte = self.before_step(machine, &open)?;
             let reply = library::step(machine, self.stepped.lend());
+            self.after_step(machine.pc, byte, reply.machine.pc, &mut open)?;
             machine = reply.machine;
             steps += 1;
             self.steps += 1;
@@ -157,17 +175,24 @@ impl Watch {
         })
     }
 
-    /// What demand 3 says before every step.
-    fn before_step(&self, machine: Machine) -> Watched<()> {
+    /// What demand 3 says before every step; its instruction byte.
+    fn before_step(&self, machine: Machine, open: &[OpenCall]) -> Watched<u8> {
         self.filter_stands(&self.stepped.memory, "before a step")?;
         let Machine { pc, wp, rp } = machine;
         let place = usize::from(pc).checked_sub(START);
         let record = place.and_then(|place| self.sheet.chunks_exact(SHEET_RECORD).nth(place));
-        let Some(&[1, working, ret, _]) = record else {
+        let Some(&[1, working, ret, _, high, low, 0, 0]) = record else {
             return Err(format!("the counter is at {pc:04x}, which is not marked"));
         };
         hold((wp, rp) == (working, ret), || {
             format!("at {pc:04x} the pointers are {wp}, {rp} and the depths {working}, {ret}")
+        })?;
+        let marked = u16::from_be_bytes([high, low]);
+        let routine = open.last().map_or(PROGRAM_START, |call| call.routine);
+        hold(routine == marked, || {
+            format!(
+                "at {pc:04x} the calls lead to routine {routine:04x}, and {marked:04x} is marked"
+            )
         })?;
         let byte = self.stepped.memory[usize::from(pc)];
         let keep = byte & 0x80 != 0;
@@ -176,7 +201,36 @@ impl Watch {
             || wraps(rp, taken.ret, keep, pushed.ret);
         hold(!goes_round, || {
             format!("at {pc:04x} byte {byte:02x} wraps a stack, pointers {wp}, {rp}")
-        })
+        })?;
+        Ok(byte)
+    }
+
+    /// "each 6C lands just after its call": the last one that is open.
+    fn after_step(
+        &mut self,
+        from: u16,
+        byte: u8,
+        to: u16,
+        open: &mut Vec<OpenCall>,
+    ) -> Watched<()> {
+        match byte {
+            JSI => {
+                let back = from.wrapping_add(3);
+                open.push(OpenCall { routine: to, back });
+                self.deepest = self.deepest.max(open.len());
+            }
+            JMP2R => {
+                let Some(OpenCall { back, .. }) = open.pop() else {
+                    return Err(format!("the 6c at {from:04x} has no call"));
+                };
+                hold(to == back, || {
+                    format!("the 6c at {from:04x} lands at {to:04x}, and not at {back:04x} after its call")
+                })?;
+                self.returns += 1;
+            }
+            _ => {}
+        }
+        Ok(())
     }
 
     fn filter_stands(&self, memory: &[u8], when: &str) -> Watched<()> {

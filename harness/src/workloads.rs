@@ -136,7 +136,7 @@ pub struct Shape {
     pub program: fn(usize) -> Vec<u8>,
 }
 
-pub const SHAPES: [Shape; 3] = [
+pub const SHAPES: [Shape; 6] = [
     Shape {
         name: "straight",
         program: straight_code,
@@ -149,13 +149,32 @@ pub const SHAPES: [Shape; 3] = [
         name: "branches",
         program: branches,
     },
+    Shape {
+        name: "one routine",
+        program: one_routine,
+    },
+    Shape {
+        name: "nested",
+        program: nested_routines,
+    },
+    Shape {
+        name: "late",
+        program: late_returns,
+    },
 ];
 
 const BRK: u8 = 0x00;
 const JCI: u8 = 0x20;
 const JMI: u8 = 0x40;
+const JSI: u8 = 0x60;
 const INC: u8 = 0x01;
 const DUP: u8 = 0x06;
+const JMP2R: u8 = 0x6c;
+
+/// Routines that can be open at once: each call takes two of 255 return bytes.
+const DEEPEST_CALLS: usize = 127;
+/// Routines with a return that is found late.
+const LATE_ROUTINES: usize = 8;
 
 /// Literals and operations one after the other, no jumps.
 fn straight_code(length: usize) -> Vec<u8> {
@@ -202,7 +221,62 @@ fn branches(length: usize) -> Vec<u8> {
     code
 }
 
-/// JMI or JCI at a place, to another place.
+/// Calls of one short routine, one after the other.
+fn one_routine(length: usize) -> Vec<u8> {
+    let routine = assemble("INC JMP2r");
+    let place = length - routine.len();
+    let mut code = assemble("LIT 00");
+    while code.len() + 3 < place {
+        code.extend(jump(JSI, code.len(), place));
+    }
+    code.resize(place - 1, INC);
+    code.push(BRK);
+    code.extend(routine);
+    code
+}
+
+/// Chains of routines, as deep as they can be: each one calls the next and returns.
+fn nested_routines(length: usize) -> Vec<u8> {
+    let links = [JSI, 0, 1, JMP2R].repeat(DEEPEST_CALLS - 1);
+    let chain = [&links[..], &[JMP2R]].concat();
+    let mut code = assemble("LIT 00");
+    let chains = (length - code.len() - 1) / (chain.len() + 3);
+    let first = length - chains * chain.len();
+    for number in 0..chains {
+        code.extend(jump(JSI, code.len(), first + number * chain.len()));
+    }
+    code.resize(first - 1, INC);
+    code.push(BRK);
+    code.extend(chain.repeat(chains));
+    code
+}
+
+/// Branches, each around a call of one of a few routines. These call a long routine, and so none of
+/// them returns before a search in the order of the steps has met all calls: all of them wait.
+fn late_returns(length: usize) -> Vec<u8> {
+    let mut code = assemble("LIT 00");
+    let routine = 4;
+    // Two instructions of the long routine for the two steps from one branch to the next.
+    let branches = (length - code.len() - LATE_ROUTINES * routine - 2) / (7 + 2);
+    let routines = code.len() + 7 * branches + 1;
+    let long = routines + LATE_ROUTINES * routine;
+    for number in 0..branches {
+        let called = routines + number % LATE_ROUTINES * routine;
+        code.push(DUP);
+        code.extend(jump(JCI, code.len(), code.len() + 6));
+        code.extend(jump(JSI, code.len(), called));
+    }
+    code.push(BRK);
+    for _ in 0..LATE_ROUTINES {
+        code.extend(jump(JSI, code.len(), long));
+        code.push(JMP2R);
+    }
+    code.resize(length - 1, INC);
+    code.push(JMP2R);
+    code
+}
+
+/// JMI, JCI or JSI at a place, to another place.
 fn jump(byte: u8, from: usize, to: usize) -> [u8; 3] {
     let [high, low] = (to as u16).wrapping_sub(from as u16 + 3).to_be_bytes();
     [byte, high, low]

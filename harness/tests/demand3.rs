@@ -1,8 +1,12 @@
 //! Demand 3 at run time: filters that the library admits, each with a list of frame calls whatever
 //! their records and budgets, with bytes put into zero page, device page and stacks before each,
-//! and with calls that are refused. Every call is made as one and again step by step.
+//! and with calls that are refused. Every call is made as one and again step by step. Most filters
+//! have subroutines: each of their returns has to land just after its call.
 
-use uxn_filter_harness::calls::{Reply, ADMIT_LIMIT, BROKE, RECORD, REFUSED, SPENT};
+use uxn_filter_harness::assembler::assemble;
+use uxn_filter_harness::calls::{
+    Reply, ADMIT_LIMIT, BROKE, PROGRAM_START, RECORD, REFUSED, SHEET_RECORD, SPENT,
+};
 use uxn_filter_harness::filters::{any_length, changed, filter};
 use uxn_filter_harness::opcodes::{BRK, LIT, RETURN, SHORT, STZ};
 use uxn_filter_harness::pair::say;
@@ -71,6 +75,9 @@ fn admitted_filters_keep_to_their_sheets() {
     let mut random = Random::new(seed());
     let mut answers = Answers::default();
     let mut steps = 0;
+    let mut returns = 0;
+    let mut returning = 0;
+    let mut deepest = 0;
     for turn in 0..FILTERS {
         let mut watch = next_filter(&mut random, turn);
         let watched = frames(&mut watch, &mut random, &mut answers);
@@ -79,6 +86,9 @@ fn admitted_filters_keep_to_their_sheets() {
             panic!("seed {}, filter {turn}:\n  {shown}\n  {what}", seed());
         }
         steps += watch.steps;
+        returns += watch.returns;
+        returning += usize::from(watch.returns > 0);
+        deepest = deepest.max(watch.deepest);
     }
     let Answers {
         broke,
@@ -92,12 +102,16 @@ fn admitted_filters_keep_to_their_sheets() {
         seed(),
         FILTERS * CALLS
     ));
+    say(&format!(
+        "demand 3: {returns} returns seen, in {returning} filters; at most {deepest} calls open"
+    ));
     // Every kind of call stands in the lists.
     assert!(broke > 1_000 && spent > 1_000 && passed > 100);
     let every = [1, 2, 3, 4, 7, 8]
         .iter()
         .all(|&number| refused[number] > 20);
     assert!(every, "refused {refused:?}");
+    assert!(returns > 10_000 && returning > FILTERS / 6 && deepest > 2);
 }
 
 /// A good record of each length goes to the same filter, with what it writes read back.
@@ -146,18 +160,37 @@ fn stores_stay_in_the_zero_page() {
 
 // The watch itself: what does not hold is seen.
 
-/// A sheet that marks each address given with its depths.
+/// The bytes of a sheet's record, as they are marked in a routine.
+fn marked_in(routine: u16, working: u8, ret: u8, byte: u8) -> [u8; SHEET_RECORD] {
+    let [high, low] = routine.to_be_bytes();
+    [1, working, ret, byte, high, low, 0, 0]
+}
+
+/// A sheet that marks each address given with its depths, all of them in routine 0100.
 fn sheet_of(program: &[u8], marked: &[(usize, u8, u8)]) -> Vec<u8> {
-    let mut sheet: Vec<u8> = program.iter().flat_map(|&byte| [0, 0, 0, byte]).collect();
-    for &(place, working, ret) in marked {
-        sheet[4 * place..4 * place + 3].copy_from_slice(&[1, working, ret]);
+    let marked: Vec<_> = marked
+        .iter()
+        .map(|&(place, working, ret)| (place, working, ret, PROGRAM_START))
+        .collect();
+    sheet_with_routines(program, &marked)
+}
+
+/// A sheet that marks each address given with its depths and its routine.
+fn sheet_with_routines(program: &[u8], marked: &[(usize, u8, u8, u16)]) -> Vec<u8> {
+    let records = program.iter().map(|&byte| [0, 0, 0, byte, 0, 0, 0, 0]);
+    let mut records: Vec<[u8; SHEET_RECORD]> = records.collect();
+    for &(place, working, ret, routine) in marked {
+        records[place] = marked_in(routine, working, ret, program[place]);
     }
-    sheet
+    records.concat()
 }
 
 /// What the watch says of a frame of a program that is not admitted, or of a wrong sheet.
 fn seen(program: &[u8], marked: &[(usize, u8, u8)]) -> String {
-    let sheet = sheet_of(program, marked);
+    seen_with(program, sheet_of(program, marked))
+}
+
+fn seen_with(program: &[u8], sheet: Vec<u8>) -> String {
     let mut watch = Watch::with_sheet(program, sheet).expect("a program that loads");
     let watched = watch.frame(&[0; RECORD], 1_000);
     watched.expect_err("something that does not hold")
@@ -213,6 +246,92 @@ fn the_watch_sees_other_depths() {
             assert!(what.contains("the depths"), "{what}");
         }
     }
+}
+
+/// A call and its return, and the marks of both.
+const CALL: &str = "JSI =sub BRK @sub JMP2r";
+const IN_CALL: [(usize, u8, u8, u16); 3] =
+    [(0, 0, 0, 0x0100), (3, 0, 0, 0x0100), (4, 0, 2, 0x0104)];
+
+#[test]
+fn the_watch_sees_another_routine() {
+    let program = assemble(CALL);
+    let right = sheet_with_routines(&program, &IN_CALL);
+    let mut watch = Watch::admitted(&program).expect("a call and its return");
+    let reply = watch.frame(&[0; RECORD], 10).expect("a frame");
+    assert_eq!((reply.answer, reply.steps, watch.returns), (BROKE, 3, 1));
+    for (place, routine) in [
+        (0, 0x0104),
+        (3, 0x0104),
+        (4, 0x0100),
+        (4, 0x0004),
+        (4, 0x0401),
+    ] {
+        let mut sheet = right.clone();
+        let at = SHEET_RECORD * place + 4;
+        sheet[at..at + 2].copy_from_slice(&u16::to_be_bytes(routine));
+        let what = seen_with(&program, sheet);
+        assert!(what.contains("is marked"), "{what}");
+    }
+    // The last pair is not 0.
+    for place in [0, 3, 4] {
+        for more in [6, 7] {
+            let mut sheet = right.clone();
+            sheet[SHEET_RECORD * place + more] = 1;
+            let what = seen_with(&program, sheet);
+            assert!(what.contains("not marked"), "{what}");
+        }
+    }
+}
+
+/// Programs that are not admitted, with a sheet that has their depths.
+#[test]
+fn the_watch_sees_a_return_that_lands_elsewhere() {
+    // The return address is taken, and another one is put there: that of the BRK at 0100 + 9.
+    let other = assemble("JSI =sub BRK @sub POP2r LIT2r :end JMP2r @end BRK");
+    let marked = [
+        (0, 0, 0, 0x0100),
+        (4, 0, 2, 0x0104),
+        (5, 0, 0, 0x0104),
+        (8, 0, 2, 0x0104),
+        (9, 0, 0, 0x0100),
+    ];
+    let what = seen_with(&other, sheet_with_routines(&other, &marked));
+    assert!(what.contains("lands at 0109"), "{what}");
+
+    // The return address of the outer call on top: the inner 6C goes back two calls.
+    let two = assemble("JSI =one BRK @one JSI =two BRK @two POP2r JMP2r");
+    let marked = [
+        (0, 0, 0, 0x0100),
+        (3, 0, 0, 0x0100),
+        (4, 0, 2, 0x0104),
+        (8, 0, 4, 0x0108),
+        (9, 0, 2, 0x0108),
+    ];
+    let what = seen_with(&two, sheet_with_routines(&two, &marked));
+    assert!(what.contains("lands at 0103"), "{what}");
+
+    // By the last step of a budget.
+    let sheet = sheet_with_routines(&two, &marked);
+    let mut watch = Watch::with_sheet(&two, sheet).expect("a program that loads");
+    watch.frame(&[0; RECORD], 3).expect("no return yet");
+    watch
+        .frame(&[0; RECORD], 4)
+        .expect_err("a return that lands elsewhere");
+}
+
+#[test]
+fn the_watch_sees_a_return_without_a_call() {
+    let program = assemble("LIT2r :end JMP2r @end BRK");
+    let what = seen(&program, &[(0, 0, 0), (3, 0, 2), (4, 0, 0)]);
+    assert!(what.contains("has no call"), "{what}");
+    // A frame begins with no call open, also where the one before it ended in a routine.
+    let program = assemble(CALL);
+    let mut watch = Watch::admitted(&program).expect("a call and its return");
+    for budget in [1, 3, 1, 2, 3] {
+        watch.frame(&[0; RECORD], budget).expect("a frame");
+    }
+    assert_eq!(watch.returns, 3);
 }
 
 #[test]

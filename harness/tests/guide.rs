@@ -2,7 +2,8 @@
 //! commands are read from the page, so that it says what the product does. The blocks:
 //!
 //! - `filter NAME`, `bytes NAME`, `records NAME`: an example's listing, its bytes, and its records,
-//!   each with the line that `frames` writes and the steps;
+//!   each with the line that `frames` writes and the steps. In a listing the lines of a routine stand
+//!   together, the one that is called first;
 //! - `verdicts`: short programs, each with its line for a frame of zeros, and its instructions;
 //! - `sheet`: a sheet, a record on each line;
 //! - `refused NAME`: listings under `refused NUMBER`, and one under `admitted`;
@@ -22,18 +23,20 @@ use uxn_filter_harness::linked::{
     self, assert_writes, expected_lines, file, lines_of, program, sheet, sheet_of, Written, BUDGET,
 };
 use uxn_filter_harness::listing::{self, hexadecimal, listing, Listed};
-use uxn_filter_harness::opcodes::BRK;
+use uxn_filter_harness::opcodes::{BRK, JMP2R};
 use uxn_filter_harness::page::{self, cells, Block};
 use uxn_filter_harness::pair::{say, Pair, Part};
-use uxn_filter_harness::second_admission::{sizes, Sizes};
+use uxn_filter_harness::second_admission::{sizes, Depths, Sizes};
 use uxn_filter_harness::watch::Watch;
 
 const KINDS: [&str; 7] = [
     "filter", "bytes", "records", "verdicts", "sheet", "refused", "console",
 ];
 /// Examples and reasons of refusals that the page has to have.
-const EXAMPLES: [&str; 7] = ["all", "node", "value", "table", "check", "third", "peak"];
-const REASONS: [&str; 16] = [
+const EXAMPLES: [&str; 9] = [
+    "all", "node", "value", "table", "check", "third", "peak", "range", "digits",
+];
+const REASONS: [&str; 30] = [
     "empty",
     "long",
     "few",
@@ -45,11 +48,25 @@ const REASONS: [&str; 16] = [
     "end",
     "cut",
     "out",
+    "far",
     "jmp",
     "jcn",
-    "subroutine",
+    "jsr",
+    "modes",
     "store",
     "store2",
+    "recursion",
+    "calls",
+    "level",
+    "start",
+    "shared",
+    "fall",
+    "back",
+    "below",
+    "first",
+    "floor",
+    "returns",
+    "levels",
 ];
 const NOT_ADMITTED: u8 = 11;
 /// Stands before the comment of an instruction that breaks a rule.
@@ -99,11 +116,43 @@ fn table(head: &str) -> Vec<Vec<String>> {
 
 // Programs
 
+/// Where the byte of an address stands in the program.
+fn place(address: u16) -> usize {
+    usize::from(address - PROGRAM_START)
+}
+
+/// A listing's program, and the sheet of its brackets; if `over` is given, with BRK over the
+/// instruction there. Each line has the routine at whose address it stands, or that begins before it:
+/// 0100, or where a call that is reached goes.
+fn program_and_sheet(lines: &[Listed], over: Option<u16>) -> (Vec<u8>, Vec<u8>) {
+    let mut code = listing::code(lines);
+    if let Some(address) = over {
+        code[place(address)] = BRK;
+    }
+    let mut routines = BTreeSet::from([PROGRAM_START]);
+    for line in lines {
+        if line.instruction == "JSI" && line.depths.is_some() && over != Some(line.address) {
+            routines.extend(line.operand);
+        }
+    }
+    let unmarked = |&byte: &u8| [0, 0, 0, byte, 0, 0, 0, 0];
+    let mut sheet: Vec<[u8; SHEET_RECORD]> = code.iter().map(unmarked).collect();
+    for line in lines {
+        if let Some(Depths { working, ret }) = line.depths {
+            let routine = routines.range(..=line.address).last().unwrap();
+            let [high, low] = routine.to_be_bytes();
+            let record = &mut sheet[place(line.address)];
+            *record = [1, working as u8, ret as u8, record[3], high, low, 0, 0];
+        }
+    }
+    (code, sheet.into_flattened())
+}
+
 /// The program of a listing, which is admitted: the library, the second admission and the one in safe
 /// Rust agree in that, and the sheet is the one of the listing's brackets. `sheet` writes it.
 fn assert_admitted(name: &str, lines: &[Listed]) -> Vec<u8> {
-    let code = listing::code(lines);
-    assert_admitted_with(name, &code, &listing::sheet(lines));
+    let (code, sheet) = program_and_sheet(lines, None);
+    assert_admitted_with(name, &code, &sheet);
     code
 }
 
@@ -284,12 +333,92 @@ fn assert_fault(name: &str, lines: &[Listed]) {
         panic!("{name}: one instruction with {FAULT}");
     };
     assert_ne!(fault.bytes[0], BRK, "{name}");
-    let place = usize::from(fault.address - PROGRAM_START);
-    let mut code = listing::code(lines);
-    let mut sheet = listing::sheet(lines);
-    code[place] = BRK;
-    sheet[SHEET_RECORD * place + 3] = BRK;
+    let (code, sheet) = program_and_sheet(lines, Some(fault.address));
     assert_admitted_with(&format!("{name} with BRK"), &code, &sheet);
+}
+
+/// BRK over an instruction of a program that is admitted: what is still reached is as before, and the
+/// program is still admitted. So where BRK mends one, the fault went with it.
+#[test]
+fn brk_over_an_instruction() {
+    let mut listings = Vec::new();
+    for Block { name, text, .. } in blocks("filter") {
+        listings.push((name, listing(&text)));
+    }
+    for Block { name, text, .. } in blocks("refused") {
+        let (_, mended) = parts(&text).pop().unwrap();
+        listings.push((name, mended));
+    }
+    let mut admissions = Admissions::new(0);
+    for (name, lines) in listings {
+        let (code, whole) = program_and_sheet(&lines, None);
+        for line in lines.iter().filter(|line| line.depths.is_some()) {
+            let mut cut = code.clone();
+            cut[place(line.address)] = BRK;
+            let what = format!("{name} with BRK at {:04X}", line.address);
+            assert_eq!(admissions.admit(&cut), ADMITTED, "{what}");
+            let records = admissions.sheet().chunks_exact(SHEET_RECORD);
+            for ((mine, whole), byte) in records.zip(whole.chunks_exact(SHEET_RECORD)).zip(cut) {
+                let same = [&whole[..3], &[byte], &whole[4..]].concat();
+                assert!(mine[0] == 0 || mine == same, "{what}");
+            }
+        }
+    }
+}
+
+/// With BRK over the only return of a routine nothing after its call is reached.
+#[test]
+fn brk_over_the_only_return() {
+    let lines = listing(&block("filter", "call").expect("the block"));
+    let named = |name| lines.iter().find(|line| line.instruction == name);
+    let (call, back) = (named("JSI").unwrap(), named("JMP2r").unwrap());
+    let after = SHEET_RECORD * place(call.address + 3);
+    let mut code = listing::code(&lines);
+    let mut admissions = Admissions::new(0);
+    for (byte, mark) in [(JMP2R, 1), (BRK, 0)] {
+        code[place(back.address)] = byte;
+        assert_eq!(admissions.admit(&code), ADMITTED);
+        assert_eq!(admissions.sheet()[after], mark);
+    }
+}
+
+/// Where two calls or two returns of a routine do not agree, BRK over either of them will do.
+#[test]
+fn brk_over_one_of_two() {
+    for (name, instruction) in [("calls", "JSI"), ("returns", "JMP2r")] {
+        let text = block("refused", name).expect(name);
+        let mut wrong = parts(&text);
+        wrong.retain(|(head, _)| *head != "admitted");
+        for (_, lines) in wrong {
+            let reached = lines.iter().filter(|line| line.depths.is_some());
+            let two: Vec<&Listed> = reached
+                .filter(|line| line.instruction == instruction)
+                .collect();
+            assert_eq!(two.len(), 2, "{name}");
+            for line in two {
+                let mut code = listing::code(&lines);
+                code[place(line.address)] = BRK;
+                assert_eq!(Admissions::new(0).admit(&code), ADMITTED, "{name}");
+            }
+        }
+    }
+}
+
+/// So many levels of calls have room on the return stack, and no more.
+#[test]
+fn levels_of_calls() {
+    let most = 127;
+    let words: Vec<String> = page().split_whitespace().map(str::to_owned).collect();
+    assert!(words.join(" ").contains(&format!("{most} levels of calls")));
+    for (levels, number) in [(most, ADMITTED), (most + 1, NOT_ADMITTED)] {
+        // Each calls what stands after its last byte; the last one only returns.
+        let mut code = assemble("JSI 0001 BRK");
+        for _ in 1..levels {
+            code.extend(assemble("JSI 0001 JMP2r"));
+        }
+        code.push(JMP2R);
+        assert_eq!(Admissions::new(0).admit(&code), number, "{levels} levels");
+    }
 }
 
 #[test]
@@ -359,7 +488,7 @@ fn the_numbers_of_the_table() {
     assert_eq!(admissions.admit(&[]), 5);
     assert_eq!(admissions.admit(&vec![0; ADMIT_LIMIT + 1]), 9);
     assert_eq!(admissions.admit(&vec![0; ADMIT_LIMIT]), ADMITTED);
-    for length in [0, 3, 5, 8] {
+    for length in [0, 4, 7, 9, 16] {
         assert_eq!(admissions.admit_into(&[BRK], length), 10);
     }
     assert_eq!(admissions.admit(&[0x02]), 11);
@@ -372,15 +501,21 @@ fn the_numbers_of_the_table() {
 fn the_sheets_are_as_written() {
     for Block { text, .. } in blocks("sheet") {
         let sheet = hexadecimal(&text);
-        assert!(text.lines().all(|line| hexadecimal(line).len() == 4));
-        let code: Vec<u8> = sheet.iter().skip(3).step_by(4).copied().collect();
+        let whole = |line| hexadecimal(line).len() == SHEET_RECORD;
+        assert!(text.lines().all(whole), "a record on each line");
+        let code: Vec<u8> = sheet
+            .iter()
+            .skip(3)
+            .step_by(SHEET_RECORD)
+            .copied()
+            .collect();
         assert_admitted_with("a sheet", &code, &sheet);
     }
 }
 
 #[test]
 fn the_sheet_as_a_table() {
-    let rows = table("| address | mark | working depth | return depth | byte | |");
+    let rows = table("| address | mark | working depth | return depth | byte | routine | |");
     let mut sheet: Vec<u8> = Vec::new();
     for (place, row) in rows.iter().enumerate() {
         assert_eq!(
@@ -389,6 +524,9 @@ fn the_sheet_as_a_table() {
         );
         sheet.extend(row[1..4].iter().map(|cell| cell.parse::<u8>().unwrap()));
         sheet.extend(hexadecimal(&row[4]));
+        let routine = u16::from_str_radix(&row[5], 16).expect("an address");
+        sheet.extend(routine.to_be_bytes());
+        sheet.extend([0, 0]);
     }
     let all = hexadecimal(&block("bytes", "all").unwrap());
     assert_eq!(sheet_of(&all), sheet);
@@ -467,13 +605,14 @@ fn the_tables_of_instructions() {
         let said = sizes(byte);
         let operand_bytes = operand.split_whitespace().count() as u32;
         assert_eq!(said.length, 1 + operand_bytes, "{row:?}");
-        assert_eq!(said.taken.working, bytes_of(&row[2], None), "{row:?}");
-        let given = bytes_of(&row[3], None);
-        let (pushed, other) = match row[1].ends_with('r') {
-            true => (said.pushed.ret, said.pushed.working),
-            false => (said.pushed.working, said.pushed.ret),
+        let on_working = (said.taken.working, said.pushed.working);
+        let on_return = (said.taken.ret, said.pushed.ret);
+        let both = match row[1].ends_with('r') || row[1] == "JSI" {
+            true => (on_return, on_working),
+            false => (on_working, on_return),
         };
-        assert_eq!((pushed, other, said.taken.ret), (given, 0, 0), "{row:?}");
+        let named = (bytes_of(&row[2], None), bytes_of(&row[3], None));
+        assert_eq!(both, (named, (0, 0)), "{row:?}");
     }
 
     let mut listed = BTreeSet::new();
@@ -489,7 +628,10 @@ fn the_tables_of_instructions() {
         }
     }
     assert_eq!(listed, forbidden.into_iter().collect());
-    assert_eq!(listed.len(), 41);
+    assert_eq!(listed.len(), 39);
+    for said in ["The other 39 bytes are", "none of the 39"] {
+        assert!(page().contains(said), "{said:?}");
+    }
     assert_eq!(seen.len(), 256);
 }
 

@@ -12,6 +12,9 @@ _Static_assert(offsetof(uxn_reply, steps) == 4, "steps");
 _Static_assert(offsetof(uxn_reply, number) == 8, "number");
 _Static_assert(offsetof(uxn_reply, answer) == 9, "answer");
 _Static_assert(offsetof(uxn_reply, verdict) == 10, "verdict");
+_Static_assert(sizeof(uxn_written) == 16, "what was written");
+_Static_assert(offsetof(uxn_written, line) == 8, "line");
+_Static_assert(offsetof(uxn_written, number) == 12, "number of a refused write");
 
 static uint8_t memory[65536], device_page[256], working[256], ret[256];
 
@@ -29,7 +32,17 @@ static void say_sheet(const uint8_t *program, size_t length, uint8_t *sheet, siz
 
     printf("admit: %u, sheet", uxn_admit(program, length, sheet, sheet_length));
     for (place = 0; place < sheet_length; place++)
-        printf(place % 4 ? " %02x" : ", %02x", sheet[place]);
+        printf(place % 8 ? " %02x" : ", %02x", sheet[place]);
+    printf("\n");
+}
+
+static void say_move(const char *call, uxn_written w, const uint8_t *output, size_t output_length)
+{
+    size_t place;
+
+    printf("%s: length %u, line %u, number %u, output", call, (unsigned)w.length, (unsigned)w.line, w.number);
+    for (place = 0; place < output_length; place++)
+        printf(" %02x", output[place]);
     printf("\n");
 }
 
@@ -39,8 +52,14 @@ int main(void)
     static const uint8_t program[] = {0x80, 0x01, 0x80, 0xf2, 0x17, 0x00};
     /* POP of the empty stack */
     static const uint8_t refused[] = {0x02, 0x00};
+    /* a call of the routine at 0104, BRK after it, JMP2r */
+    static const uint8_t caller[] = {0x60, 0x00, 0x01, 0x00, 0x6c};
     static const uint32_t wrong[] = {16, 255, 256, 259, 65536 + 3, UINT32_MAX};
-    uint8_t sheet[4 * sizeof program];
+    /* a marked record and one that is not marked; the same with a routine of its own */
+    static const uint8_t old[] = {1, 2, 3, 0xa0, 0, 0, 0, 0xf2};
+    static const uint8_t called[] = {1, 2, 3, 0xa0, 2, 0, 0, 0};
+    uint8_t wide[18], narrow[9];
+    uint8_t sheet[8 * sizeof program];
     uint8_t record[64];
     uxn_machine machine = {0x1234, 5, 6};
     uxn_reply reply;
@@ -71,11 +90,22 @@ int main(void)
     printf("device -1: %d\n", uxn_event(reply.machine, BUFFERS, -1, 100).number == UXN_DEVICE_NUMBER);
 
     say_sheet(program, sizeof program, sheet, sizeof sheet);
-    say_sheet(program, sizeof program, sheet, 8);
-    say_sheet(refused, sizeof refused, sheet, 8);
+    say_sheet(program, sizeof program, sheet, 24);
+    say_sheet(caller, sizeof caller, sheet, 8 * sizeof caller);
+    say_sheet(refused, sizeof refused, sheet, 16);
     printf("admit: %d\n", uxn_admit(program, 0, sheet, 0) == UXN_PROGRAM_LENGTH);
     printf("admit: %d\n", uxn_admit(memory, 4097, sheet, 0) == UXN_ADMIT_LENGTH);
     printf("admit: %d\n", uxn_admit(program, sizeof program, sheet, 0) == UXN_SHEET_LENGTH);
-    printf("admit: %d\n", uxn_admit(refused, sizeof refused, sheet, 8) == UXN_NO_ASSIGNMENT);
+    printf("admit: %d\n", uxn_admit(refused, sizeof refused, sheet, 16) == UXN_NO_ASSIGNMENT);
+
+    memset(wide, 7, sizeof wide);
+    memset(narrow, 7, sizeof narrow);
+    say_move("widen", uxn_widen_sheet(old, sizeof old, wide, sizeof wide), wide, sizeof wide);
+    say_move("narrow", uxn_narrow_sheet(wide, 16, narrow, sizeof narrow), narrow, sizeof narrow);
+    printf("widen: %d\n", uxn_widen_sheet(old, 7, wide, 0).number == UXN_SHEET_FORM);
+    printf("widen: %d\n", uxn_widen_sheet(old, sizeof old, wide, 15).number == UXN_OUTPUT_LENGTH);
+    printf("narrow: %d\n", uxn_narrow_sheet(old, sizeof old, narrow, 0).number == UXN_SHEET_FORM);
+    printf("narrow: %d\n", uxn_narrow_sheet(called, sizeof called, narrow, 0).number == UXN_SHEET_ROUTINE);
+    printf("narrow: %d\n", uxn_narrow_sheet(wide, 16, narrow, 7).number == UXN_OUTPUT_LENGTH);
     return 0;
 }

@@ -35,13 +35,23 @@ device 259: answer 0, number 6
 device 65539: answer 0, number 6
 device 4294967295: answer 0, number 6
 device -1: 1
-admit: 0, sheet, 01 00 00 80, 00 00 00 01, 01 01 00 80, 00 00 00 f2, 01 02 00 17, 01 00 00 00
-admit: 10, sheet, 01 00 00 80, 00 00 00 01
-admit: 11, sheet, 00 00 00 00, 00 00 00 00
+admit: 0, sheet, 01 00 00 80 01 00 00 00, 00 00 00 01 00 00 00 00, 01 01 00 80 01 00 00 00, 00 00 00 f2 00 00 00 00, \
+01 02 00 17 01 00 00 00, 01 00 00 00 01 00 00 00
+admit: 10, sheet, 01 00 00 80 01 00 00 00, 00 00 00 01 00 00 00 00, 01 01 00 80 01 00 00 00
+admit: 0, sheet, 01 00 00 60 01 00 00 00, 00 00 00 00 00 00 00 00, 00 00 00 01 00 00 00 00, 01 00 00 00 01 00 00 00, \
+01 00 02 6c 01 04 00 00
+admit: 11, sheet, 00 00 00 00 00 00 00 00, 00 00 00 00 00 00 00 00
 admit: 1
 admit: 1
 admit: 1
 admit: 1
+widen: length 16, line 0, number 0, output 01 02 03 a0 01 00 00 00 00 00 00 f2 00 00 00 00 07 07
+narrow: length 8, line 0, number 0, output 01 02 03 a0 00 00 00 f2 07
+widen: 1
+widen: 1
+narrow: 1
+narrow: 1
+narrow: 1
 ";
 
 #[test]
@@ -203,7 +213,7 @@ fn the_calls_are_declared_in_c90_too() {
 // The version
 
 /// The version, and a sum over the header without comments and white space as it is in that version.
-const INTERFACE: (&str, u64) = ("2", 7_467_912_848_629_276_662);
+const INTERFACE: (&str, u64) = ("3", 14_798_871_572_372_559_815);
 
 /// The header without comments and white space.
 fn bare(header: &str) -> String {

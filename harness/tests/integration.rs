@@ -9,7 +9,8 @@ use std::process::Command;
 use std::thread;
 
 use uxn_filter_harness::calls::{
-    Machine, Owned, Reply, ADMITTED, ADMIT_LIMIT, LOADED, PROGRAM_START, RECORD, SPENT,
+    Machine, Owned, Reply, ADMITTED, ADMIT_LIMIT, LOADED, PROGRAM_START, RECORD, SHEET_RECORD,
+    SPENT,
 };
 use uxn_filter_harness::compiled::{build_c, library, printed, repository};
 use uxn_filter_harness::disassembly::{self, called, Instruction};
@@ -139,6 +140,7 @@ fn the_programs_print_what_the_page_says() {
         ("c", "filter.c", "", gcc),
         ("rust", "filter.rs", "", rustc),
         ("c", "calls.c", "calls.c", gcc),
+        ("c", "sheets.c", "sheets.c", gcc),
     ] {
         let expected = &block(&blocks, "text", printed).text;
         assert!(expected.lines().count() > 4, "too little is printed");
@@ -146,7 +148,7 @@ fn the_programs_print_what_the_page_says() {
         let commands = &block(&blocks, "sh", name).text;
         assert!(commands.starts_with(compiler), "{commands:?}");
     }
-    assert_eq!(blocks.len(), 8, "a block that is not tested");
+    assert_eq!(blocks.len(), 11, "a block that is not tested");
 }
 
 // Constants and layout
@@ -188,7 +190,7 @@ fn the_structs_are_laid_out_as_the_page_says() {
     let page = page();
     let header = header();
     let mut asserted = String::from("#include <stddef.h>\n#include \"uxn_filter.h\"\n");
-    for name in ["uxn_machine", "uxn_reply", "uxn_host"] {
+    for name in ["uxn_machine", "uxn_reply", "uxn_written", "uxn_host"] {
         let head = format!("| field of `{name}` | type | at | meaning |");
         let (before, _) = page.split_once(&head).expect("the table");
         let (_, size) = before.rsplit_once("It has ").expect("the size");
@@ -526,7 +528,7 @@ fn work(seed: u64) -> (Vec<Reply>, Owned) {
     let mut random = Random::new(seed);
     let length = any_length(&mut random, ADMIT_LIMIT);
     let program = filter(&mut random, length);
-    let mut sheet = vec![0; 4 * program.len()];
+    let mut sheet = vec![0; SHEET_RECORD * program.len()];
     assert_eq!(calls::admit(&program, &mut sheet), ADMITTED);
     let mut own = Owned::new();
     let loaded = calls::load(Machine::default(), own.lend(), &program);

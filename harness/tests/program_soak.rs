@@ -20,7 +20,7 @@ use uxn_filter_harness::assembler::assemble;
 use uxn_filter_harness::calls::{ADMIT_LIMIT, PROGRAM_LIMIT, RECORD};
 use uxn_filter_harness::filters::{any, any_length, filter};
 use uxn_filter_harness::linked::{
-    self, after, ends, expected_lines, expected_sheet, feed, file, frames, pipe, quick,
+    self, after, calling, ends, expected_lines, expected_sheet, feed, file, frames, pipe, quick,
     random_record, said_at_end, same, sheet, Written, INPUT, IS_FOLDER, NOT_READ, NO_FILE,
     NO_READER, NO_SPACE, OUTPUT, SIGPIPE,
 };
@@ -415,6 +415,7 @@ fn any_program(random: &mut Random) -> (Vec<u8>, bool) {
             let length = any_length(random, ADMIT_LIMIT);
             any(random, turn, length)
         }
+        10 => return (calling(), true),
         _ => return (quick(), true),
     };
     (code, false)
@@ -552,7 +553,8 @@ fn sheet_run(seed: u64, folder: &Path, total: &mut Total) {
         0 => Vec::new(),
         1 => vec![0; ADMIT_LIMIT - 1 + random.below(4)],
         2 => any_program(random).0,
-        3..=4 => filter(random, ADMIT_LIMIT),
+        3 => calling(),
+        4 => filter(random, ADMIT_LIMIT),
         _ => {
             let turn = random.below(100);
             let length = any_length(random, ADMIT_LIMIT + 1);

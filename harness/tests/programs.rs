@@ -15,11 +15,11 @@ use std::thread;
 use std::time::{Duration, Instant};
 
 use uxn_filter_harness::assembler::assemble;
-use uxn_filter_harness::calls::{ADMIT_LIMIT, PROGRAM_LIMIT, RECORD};
+use uxn_filter_harness::calls::{ADMIT_LIMIT, PROGRAM_LIMIT, RECORD, SHEET_RECORD};
 use uxn_filter_harness::compiled::{printed, repository};
 use uxn_filter_harness::filters::{any, any_length};
 use uxn_filter_harness::linked::{
-    self, after, assert_writes, assert_written, ends, expected_frames, expected_lines,
+    self, after, assert_writes, assert_written, calling, ends, expected_frames, expected_lines,
     expected_sheet, file, frames, lines_of, pipe, program, quick, random_record, run,
     run_in_pieces, said_at_end, sheet, sheet_of, Written, BUDGET, INPUT, IS_FOLDER, NOT_OPEN,
     NOT_READ, NO_FILE, NO_READER, NO_SPACE, OUTPUT, PASSES, PATIENCE, SIGPIPE,
@@ -745,10 +745,11 @@ fn the_example_is_admitted() {
 /// LIT without its operand: not the whole instruction lies in the program.
 const REFUSED: [u8; 1] = [0x80];
 
-/// The sheet of document 01.
-const PASSES_SHEET: [u8; 24] = [
-    0x01, 0x00, 0x00, 0x80, 0x00, 0x00, 0x00, 0x01, 0x01, 0x01, 0x00, 0x80, 0x00, 0x00, 0x00, 0xf2,
-    0x01, 0x02, 0x00, 0x17, 0x01, 0x00, 0x00, 0x00,
+/// The sheet of document 01, in records of 8 bytes by C-19.
+const PASSES_SHEET: [u8; 48] = [
+    0x01, 0x00, 0x00, 0x80, 0x01, 0x00, 0x00, 0x00, 0x00, 0x00, 0x00, 0x01, 0x00, 0x00, 0x00, 0x00,
+    0x01, 0x01, 0x00, 0x80, 0x01, 0x00, 0x00, 0x00, 0x00, 0x00, 0x00, 0xf2, 0x00, 0x00, 0x00, 0x00,
+    0x01, 0x02, 0x00, 0x17, 0x01, 0x00, 0x00, 0x00, 0x01, 0x00, 0x00, 0x00, 0x01, 0x00, 0x00, 0x00,
 ];
 
 /// Each number, and nothing but the number; the first that applies.
@@ -781,15 +782,16 @@ fn refused_sheets() {
 fn sheets_of_every_length() {
     assert_eq!(sheet_of(&PASSES), PASSES_SHEET);
     assert_eq!(sheet_of(&[]), []);
-    assert_eq!(sheet_of(&[0x00]), [1, 0, 0, 0]);
+    assert_eq!(sheet_of(&[0x00]), [1, 0, 0, 0, 1, 0, 0, 0]);
     assert_eq!(sheet_of(&REFUSED), []);
     let mut random = Random::new(seed());
     for length in [2, 1_000, ADMIT_LIMIT - 1, ADMIT_LIMIT] {
         // After BRK nothing is reached.
         let mut code = vec![0; length];
         random.fill(&mut code[1..]);
-        let mut expected: Vec<u8> = code.iter().flat_map(|&byte| [0, 0, 0, byte]).collect();
-        expected[0] = 1;
+        let records = code.iter().map(|&byte| [0, 0, 0, byte, 0, 0, 0, 0]);
+        let mut expected: Vec<u8> = records.flatten().collect();
+        [expected[0], expected[4]] = [1, 1];
         assert!(sheet_of(&code) == expected, "length {length}");
     }
     for length in [ADMIT_LIMIT + 1, ADMIT_LIMIT + 2, 65_536, 100_000] {
@@ -813,6 +815,66 @@ fn sheets_beside_the_second_admission() {
     }
     say(&format!("sheet: {admitted} of {programs} are admitted"));
     assert!((programs / 4..=programs * 3 / 4).contains(&admitted));
+}
+
+/// A filter with subroutines, through both programs.
+#[test]
+fn a_filter_with_subroutines() {
+    let code = calling();
+    let [first, high, shift] = [0x0100, 0x0115, 0x011a];
+    let records = code.iter().map(|&byte| [0, 0, 0, byte, 0, 0, 0, 0]);
+    let mut records: Vec<[u8; SHEET_RECORD]> = records.collect();
+    for (place, working, ret, routine) in [
+        (0x00, 0, 0, first),
+        (0x02, 1, 0, first),
+        (0x05, 1, 0, first),
+        (0x07, 2, 0, first),
+        (0x08, 0, 0, first),
+        (0x0a, 1, 0, first),
+        (0x0d, 1, 0, first),
+        (0x0f, 2, 0, first),
+        (0x10, 2, 0, first),
+        (0x11, 1, 0, first),
+        (0x13, 2, 0, first),
+        (0x14, 0, 0, first),
+        (0x15, 1, 2, high),
+        (0x16, 1, 2, high),
+        (0x19, 1, 2, high),
+        (0x1a, 1, 4, shift),
+        (0x1c, 2, 4, shift),
+        (0x1d, 1, 4, shift),
+    ] {
+        let [routine_high, routine_low] = u16::to_be_bytes(routine);
+        let byte = code[place];
+        records[place] = [1, working, ret, byte, routine_high, routine_low, 0, 0];
+    }
+    assert_eq!(sheet_of(&code), records.as_flattened());
+
+    let folder = folder("a_filter_with_subroutines");
+    let rom = file(&folder, "calling.rom", &code);
+    let mut frames_bytes = Vec::new();
+    let mut lines = String::new();
+    for (data, line) in [
+        (&[0x12, 0x1f][..], "pass\n"),
+        (&[0x12, 0x2f], "drop\n"),
+        (&[0xf0, 0xff, 0x00], "pass\n"),
+        (&[0xf0, 0x0f], "drop\n"),
+        (&[0x07], "pass\n"),
+        (&[], "pass\n"),
+    ] {
+        frames_bytes.extend(record(3, data));
+        lines += line;
+    }
+    let records = file(&folder, "records.bin", &frames_bytes);
+    assert_eq!(lines_of(&rom, &records), lines);
+    assert_eq!(expected_lines(&code, &frames_bytes), lines);
+    let mut random = Random::new(seed());
+    let many: Vec<u8> = (0..2_000)
+        .flat_map(|_| random_record(&mut random))
+        .collect();
+    let records = file(&folder, "records.bin", &many);
+    let expected = expected_frames(&code, &many, &records);
+    assert_writes(frames().arg(&rom).arg(&records), &[], &expected);
 }
 
 #[test]
@@ -956,6 +1018,7 @@ fn valgrind_has_nothing_to_say() {
     let mut random = Random::new(seed());
     // A program of every kind with some records, more than a block with a short one.
     let quick = file(&folder, "quick.rom", &quick());
+    let calls = file(&folder, "calling.rom", &calling());
     let mut bytes: Vec<u8> = (0..1_030)
         .flat_map(|_| random_record(&mut random))
         .collect();
@@ -965,8 +1028,10 @@ fn valgrind_has_nothing_to_say() {
     let mut runs = vec![
         watched_frames(&example("filter.rom"), &example("records.bin")),
         watched_frames(&quick, &many),
+        watched_frames(&calls, &many),
         watched_frames(&quick, &folder),
         watched_sheet(&[]),
+        watched_sheet(&calling()),
         watched_help("frames"),
         watched_help("sheet"),
     ];

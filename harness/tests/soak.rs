@@ -2,7 +2,7 @@
 //! without it the soak is a few seconds long.
 
 use uxn_filter_harness::admissions::Admissions;
-use uxn_filter_harness::calls::{ADMIT_LIMIT, BROKE, PROGRAM_LIMIT, RECORD};
+use uxn_filter_harness::calls::{ADMIT_LIMIT, BROKE, PROGRAM_LIMIT, RECORD, SHEET_RECORD};
 use uxn_filter_harness::filters::{any, any_length, filter};
 use uxn_filter_harness::pair::{Pair, Part};
 use uxn_filter_harness::programs::{grammar_made, random_bytes};
@@ -10,12 +10,13 @@ use uxn_filter_harness::random::Random;
 use uxn_filter_harness::soak::rounds;
 use uxn_filter_harness::watch::{any_record, Watch, Watched};
 
-/// How many steps and admissions were compared, and steps watched.
+/// How many steps and admissions were compared, and steps watched, with the returns among them.
 #[derive(Default)]
 struct Total {
     steps: u64,
     admissions: u64,
     watched: u64,
+    returns: u64,
 }
 
 impl Total {
@@ -24,8 +25,12 @@ impl Total {
             steps,
             admissions,
             watched,
+            returns,
         } = self;
-        format!("{steps} compared steps, {admissions} compared admissions, {watched} watched steps")
+        format!(
+            "{steps} compared steps, {admissions} compared admissions, {watched} watched steps with \
+             {returns} returns"
+        )
     }
 }
 
@@ -34,7 +39,9 @@ fn soak() {
     let round = |seed, total: &mut Total| {
         total.steps += machine_round(seed);
         total.admissions += admission_round(seed);
-        total.watched += watched_round(seed);
+        let watch = watched_round(seed);
+        total.watched += watch.steps;
+        total.returns += watch.returns;
     };
     rounds("soak", round, Total::text);
 }
@@ -99,15 +106,15 @@ fn admission_round(seed: u64) -> u64 {
         let program = any(&mut random, turn, length);
         admissions.admit(&program);
         if random.one_in(8) {
-            let sheet = random.below(8 * length + 1);
+            let sheet = random.below(2 * SHEET_RECORD * length + 1);
             admissions.admit_into(&program, sheet);
         }
     }
     admissions.calls()
 }
 
-/// A filter of the grammar with a list of frame calls, watched step by step; returns the steps.
-fn watched_round(seed: u64) -> u64 {
+/// A filter of the grammar with a list of frame calls, watched step by step.
+fn watched_round(seed: u64) -> Watch {
     let mut random = Random::new(seed);
     let length = any_length(&mut random, ADMIT_LIMIT);
     let program = filter(&mut random, length);
@@ -115,7 +122,7 @@ fn watched_round(seed: u64) -> u64 {
     if let Err(what) = watched_frames(&mut watch, &mut random) {
         panic!("seed {seed}:\n  {}\n  {what}", watch.shown());
     }
-    watch.steps
+    watch
 }
 
 fn watched_frames(watch: &mut Watch, random: &mut Random) -> Watched<()> {

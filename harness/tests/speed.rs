@@ -19,8 +19,8 @@ const STEP_BAR: f64 = 1.45;
 const EACH_STEP_BAR: f64 = 1.6;
 
 /// An admission of the library over one in safe Rust: in the mean of shapes and lengths, and in each.
-const ADMISSION_BAR: f64 = 1.75;
-const EACH_ADMISSION_BAR: f64 = 2.2;
+const ADMISSION_BAR: f64 = 1.5;
+const EACH_ADMISSION_BAR: f64 = 1.8;
 /// An admission of 4,096 bytes over one of 512, eight times as many.
 const GROWTH_BAR: f64 = 8.0;
 

@@ -9,7 +9,9 @@
 #include "uxn_filter.h"
 
 static uint8_t memory[65536], device_page[256], working[256], ret[256];
-static uint8_t program[4096], sheet[4 * sizeof program], record[64];
+static uint8_t program[4096], sheet[8 * sizeof program], record[64];
+/* stored sheets, whose first record is marked and whose others are not, in the old form and in the new one */
+static const uint8_t narrow_sheet[4 * sizeof program] = {1, 0, 0, 0x80}, wide_sheet[8 * sizeof program] = {1, 0, 0, 0x80, 1};
 static size_t length;
 static uint8_t painted[65536];
 static ucontext_t host, guest;
@@ -24,7 +26,9 @@ static void step(void) { uxn_step(start, BUFFERS); }
 static void run(void) { uxn_run(start, BUFFERS, 100); }
 static void event(void) { uxn_event(start, BUFFERS, 0, 100); }
 static void frame(void) { uxn_frame(start, BUFFERS, record, sizeof record, 100); }
-static void admit(void) { uxn_admit(program, length, sheet, 4 * length); }
+static void admit(void) { uxn_admit(program, length, sheet, 8 * length); }
+static void widen(void) { uxn_widen_sheet(narrow_sheet, 4 * length, sheet, 8 * length); }
+static void narrow(void) { uxn_narrow_sheet(wide_sheet, 8 * length, sheet, 4 * length); }
 
 static size_t taken(void (*call)(void), int paint)
 {
@@ -42,18 +46,22 @@ static size_t taken(void (*call)(void), int paint)
     return sizeof painted - untouched;
 }
 
-/* The most over programs that begin with each instruction byte, and over lengths; a byte that is written may be the paint. */
+/* The most over programs that begin with each instruction byte, or with a call of it, and over lengths; a byte that is written
+   may be the paint. */
 static size_t most(void (*call)(void))
 {
     static const size_t lengths[] = {1, 2, 64, sizeof program};
+    static const uint8_t jsi[] = {0x60, 0x00, 0x01, 0x00};
     size_t result = 0, found, n;
-    int byte, paint;
+    int byte, paint, called;
 
-    for (byte = 0; byte < 256; byte++)
+    for (byte = 0; byte < 512; byte++)
         for (n = 0; n < sizeof lengths / sizeof *lengths; n++)
             for (paint = 0x5a; paint <= 0xa5; paint += 0xa5 - 0x5a) {
                 length = lengths[n];
-                memset(program, byte, length);
+                memset(program, byte % 256, length);
+                called = byte >= 256 && length > sizeof jsi;
+                memcpy(program, jsi, called ? sizeof jsi : 0);
                 load();
                 device_page[0] = 1;
                 found = taken(call, paint);
@@ -68,7 +76,8 @@ int main(void)
     static const struct {
         const char *name;
         void (*call)(void);
-    } calls[] = {{"uxn_load", load}, {"uxn_step", step}, {"uxn_run", run}, {"uxn_event", event}, {"uxn_frame", frame}, {"uxn_admit", admit}};
+    } calls[] = {{"uxn_load", load},   {"uxn_step", step},   {"uxn_run", run},           {"uxn_event", event},
+                 {"uxn_frame", frame}, {"uxn_admit", admit}, {"uxn_widen_sheet", widen}, {"uxn_narrow_sheet", narrow}};
     size_t without = most(none), n;
 
     for (n = 0; n < sizeof calls / sizeof *calls; n++)

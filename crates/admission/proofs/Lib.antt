@@ -1,5 +1,4 @@
+pub mod Blank
 pub mod Calls
 pub mod Explored
-pub mod Sheets
-pub mod Visits
-pub mod Worklist
+pub mod Judged

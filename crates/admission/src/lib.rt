@@ -1,31 +1,39 @@
 // Admission of a program: the addresses that are reached from 0100 are marked in the sheet, each once, by a worklist.
 use buffers::clear;
 use model::AdmitReply;
+use rules::below_floor;
 use rules::depth_by_table;
 use rules::forbidden;
-use rules::jump_target;
+use rules::lacks;
 use table::entry;
 use table::table;
+use worklist::Next;
+use worklist::SHEET_RECORD;
+use worklist::START;
+use worklist::call;
+use worklist::floor_of;
+use worklist::follow;
+use worklist::leave;
+use worklist::mark;
+use worklist::routine_of;
+use worklist::wide;
 ghost use mathlib.Core.Path.{_≡_};
-ghost use Prim.Native.Nat.{_+_, _*_, _≤_};
-ghost use lib.ListN.{length, set, replicate};
+ghost use mathlib.Core.Bool.{_||_};
+ghost use Prim.Native.Nat.{_+_, _-_, _*_, _≤_, _<_};
+ghost use lib.Dec.{eqb, ltb};
+ghost use lib.ListN.{length, getD, replicate};
 ghost use Rattle.model.specs.Machine.{start};
-ghost use Rattle.model.specs.Instruction.{RowTable};
-ghost use Rattle.model.specs.Admission.{sheetRecord, sheetOf, markIn};
-ghost use Rattle.model.specs.Admission.Mark.{unmarked, marked};
+ghost use Rattle.model.specs.Instruction.{returning, takenFrom, RowTable};
+ghost use Rattle.model.specs.Admission.{admitMost, sheetRecord, sheetOf};
+ghost use Rattle.model.specs.Admission.Mark.{unmarked};
 ghost use Rattle.model.specs.Calls.{admitCall};
 ghost use Rattle.model.specs.Replies.{ofAdmit};
 ghost use Rattle.model.specs.Exactness.{Proper};
-ghost use Rattle.admission.specs.Worklist.{Forced, Marks, Obeyed, Listed, Tested, Outcome, Explored};
+ghost use Rattle.worklist.specs.Worklist.{retAt, Marks, Obeyed, Listed, Outcome, placed, Visit, Visited};
+ghost use Rattle.admission.specs.Explored.{Judged, OfRoutines, Going, Met, Walked, Explored};
 
 // "above 4,096 bytes" a program is not admitted.
 const ADMIT_MOST: usize = 4096;
-
-// "A sheet has one 4-byte record per program byte": mark, working depth, return depth, the program byte.
-const SHEET_RECORD: usize = 4;
-
-// "The first record stands for address 0100."
-const START: u16 = 0x0100;
 
 // The columns of the table: the two stacks, and the length.
 const WORKING: usize = 0;
@@ -34,18 +42,10 @@ const RETURNING: usize = 1;
 
 const LENGTH: usize = 4;
 
-const BRK: u8 = 0x00;
+const JSI: u8 = 0x60;
 
-const JCI: u8 = 0x20;
-
-const JMI: u8 = 0x40;
-
-// How the worklist goes on: a rule fails where every assignment has a mark, so that there is none; or with this many
-// addresses in the queue.
-enum Next {
-    Refuted,
-    Queued(usize),
-}
+// JMP in 16-bit return form without keep.
+const RETURN: u8 = 0x6C;
 
 // ---- the sheet
 
@@ -54,116 +54,77 @@ fn unmark(program: &[u8], sheet: &mut [u8])
     requires { ⌜ length (now sheet) ≡ sheetRecord * length (now program) ⌝ }
     ensures { λ _. ⌜ now (sheet .exit) ≡ sheetOf (replicate (length (now (program .entry))) unmarked) (now (program .entry)) ⌝ }
 {
+    clear(sheet);
     let mut i = 0;
     while i < program.len() {
-        let place = SHEET_RECORD * i;
-        sheet[place] = 0;
-        sheet[place + 1] = 0;
-        sheet[place + 2] = 0;
-        sheet[place + 3] = program[i];
+        sheet[SHEET_RECORD * i + 3] = program[i];
         i += 1;
     }
 }
 
-// The record of place i becomes marked with these depths.
-fn mark(sheet: &mut [u8], i: usize, work: u8, ret: u8)
-    requires { ⌜ sheetRecord * i + 3 ≤ length (now sheet) ⌝ }
-    ensures { λ _. ⌜ now (sheet .exit) ≡ set (set (set (now (sheet .entry)) (sheetRecord * i) 1) (sheetRecord * i + 1) work) (sheetRecord * i + 2) ret ⌝ }
-{
-    let place = SHEET_RECORD * i;
-    sheet[place] = 1;
-    sheet[place + 1] = work;
-    sheet[place + 2] = ret;
+// ---- the rules at one address
+
+// What the rules say of the instruction at place i by itself, with the depths of its record: one of them fails; or the place after it,
+// and the depths after it.
+enum Depths {
+    Fails,
+    After(usize, u8, u8),
 }
 
-// ---- the worklist
-
-// The address is one where the program goes on, with these depths: it is marked and put into the queue, unless it is marked.
-fn reach(
-    program: &[u8],
-    sheet: &mut [u8],
-    queue: &mut [u16; 4096],
-    tail: usize,
-    at: u16,
-    work: u8,
-    ret: u8,
-) -> Next
-    requires { ⌜ Listed (now program) (now sheet) (now queue) tail × Forced (now program) at work ret ⌝ }
-    ensures { λ n. ⌜ Outcome (now (program .entry)) (now (sheet .entry)) (now (queue .entry)) tail (now (sheet .exit)) (now (queue .exit))
-        (markIn (now (sheet .exit)) at ≡ marked work ret) n ⌝ }
-{
-    if at < START {
-        return Next::Refuted;
-    }
-    let i = (at - START) as usize;
-    if program.len() <= i {
-        return Next::Refuted;
-    }
-    let place = SHEET_RECORD * i;
-    if sheet[place] == 0 {
-        mark(sheet, i, work, ret);
-        queue[tail] = at - START;
-        return Next::Queued(tail + 1);
-    }
-    if sheet[place + 1] != work {
-        return Next::Refuted;
-    }
-    if sheet[place + 2] != ret {
-        return Next::Refuted;
-    }
-    Next::Queued(tail)
-}
-
-// "each address where it may go on (after it; for JMI its target; for JCI both)" from place i, with these depths. "BRK goes
-// nowhere."
-fn follow(
-    program: &[u8],
-    sheet: &mut [u8],
-    queue: &mut [u16; 4096],
-    tail: usize,
-    i: usize,
-    after: usize,
-    work: u8,
-    ret: u8,
-) -> Next
-    requires { ⌜ Listed (now program) (now sheet) (now queue) tail × Marks (now sheet) (start + i) × Tested (now program) (now sheet) i after work ret ⌝ }
-    ensures { λ n. ⌜ Outcome (now (program .entry)) (now (sheet .entry)) (now (queue .entry)) tail (now (sheet .exit)) (now (queue .exit))
-        (Obeyed (now (program .entry)) (now (sheet .exit)) (start + i)) n ⌝ }
+fn depths_after(rows: &[u8; 1280], program: &[u8], sheet: &[u8], i: usize) -> Depths
+    requires { ⌜ RowTable (now rows) × (i < length (now program)) × (length (now program) ≤ admitMost) × (sheetRecord * i + 7 < length (now sheet)) ⌝ }
+    ensures { λ d. ⌜ Judged (now (program .entry)) (now (sheet .entry)) i d ⌝ }
 {
     let byte = program[i];
-    if byte == BRK {
-        return Next::Queued(tail);
+    if forbidden(byte) {
+        return Depths::Fails;
     }
-    if byte == JMI {
-        return reach(
-            program,
-            sheet,
-            queue,
-            tail,
-            jump_target(program, i),
-            work,
-            ret,
-        );
+    let after = i + entry(rows, byte, LENGTH) as usize;
+    if program.len() < after {
+        return Depths::Fails;
     }
-    let next = reach(program, sheet, queue, tail, START + after as u16, work, ret);
-    if byte != JCI {
-        return next;
+    let place = SHEET_RECORD * i;
+    let work = sheet[place + 1];
+    if lacks(rows, byte, WORKING, work) {
+        return Depths::Fails;
     }
-    let Next::Queued(more) = next else {
-        return Next::Refuted;
-    };
-    reach(
-        program,
-        sheet,
-        queue,
-        more,
-        jump_target(program, i),
-        work,
-        ret,
+    let work_after = depth_by_table(rows, byte, WORKING, work);
+    if 255 < work_after {
+        return Depths::Fails;
+    }
+    let ret = sheet[place + 2];
+    if lacks(rows, byte, RETURNING, ret) {
+        return Depths::Fails;
+    }
+    let ret_after = depth_by_table(rows, byte, RETURNING, ret);
+    if 255 < ret_after {
+        return Depths::Fails;
+    }
+    Depths::After(after, work_after as u8, ret_after as u8)
+}
+
+// The instruction at place i takes return bytes below the floor of this routine, which is not above the return depth: one that takes none
+// does not.
+fn sinks(rows: &[u8; 1280], program: &[u8], sheet: &[u8], i: usize, routine: u16) -> bool
+    requires { ⌜ RowTable (now rows) × (i < length (now program)) × (sheetRecord * i + 7 < length (now sheet)) × (start ≤ routine)
+        × (sheetRecord * (routine - start) + 2 < length (now sheet)) × (retAt (now sheet) (routine - start) ≤ retAt (now sheet) i) ⌝ }
+    ensures { λ b. ⌜ b ≡ ltb (retAt (now (sheet .entry)) i) (retAt (now (sheet .entry)) (routine - start) + takenFrom returning (getD (now (program .entry)) i 0)) ⌝ }
+{
+    let byte = program[i];
+    if entry(rows, byte, RETURNING) == 0 {
+        return false;
+    }
+    below_floor(
+        rows,
+        byte,
+        floor_of(sheet, routine),
+        sheet[SHEET_RECORD * i + 2],
     )
 }
 
-// The rules at place i, which is marked.
+// ---- what is neither a call nor a return
+
+// The instruction at place i.
 fn visit(
     rows: &[u8; 1280],
     program: &[u8],
@@ -172,38 +133,146 @@ fn visit(
     tail: usize,
     i: usize,
 ) -> Next
-    requires { ⌜ RowTable (now rows) × Listed (now program) (now sheet) (now queue) tail × Marks (now sheet) (start + i) ⌝ }
+    requires { ⌜ RowTable (now rows) × Listed (now program) (now sheet) (now queue) tail × Marks (now sheet) (start + i)
+        × (getD (now program) i 0 ≡ 0x60 → ⊥) × (getD (now program) i 0 ≡ 0x6C → ⊥) ⌝ }
     ensures { λ n. ⌜ Outcome (now (program .entry)) (now (sheet .entry)) (now (queue .entry)) tail (now (sheet .exit)) (now (queue .exit))
         (Obeyed (now (program .entry)) (now (sheet .exit)) (start + i)) n ⌝ }
 {
-    let byte = program[i];
-    if forbidden(byte) {
+    let Depths::After(after, work, ret) = depths_after(rows, program, sheet, i) else {
+        return Next::Refuted;
+    };
+    let routine = routine_of(sheet, i);
+    if sinks(rows, program, sheet, i, routine) {
         return Next::Refuted;
     }
-    let after = i + entry(rows, byte, LENGTH) as usize;
-    if program.len() < after {
-        return Next::Refuted;
-    }
-    let place = SHEET_RECORD * i;
-    let work = depth_by_table(rows, byte, WORKING, sheet[place + 1]);
-    if 255 < work {
-        return Next::Refuted;
-    }
-    let ret = depth_by_table(rows, byte, RETURNING, sheet[place + 2]);
-    if 255 < ret {
-        return Next::Refuted;
-    }
-    follow(program, sheet, queue, tail, i, after, work as u8, ret as u8)
+    follow(program, sheet, queue, tail, i, after, work, ret, routine)
 }
 
-// A function of its own, since a cast of an element of an array would ask for a proof that it fits.
-fn wide(x: u16) -> usize
-    ensures { λ r. ⌜ r ≡ x ⌝ }
+// JSI and 6C.
+fn of_routines(byte: u8) -> bool
+    ensures { λ b. ⌜ b ≡ (eqb byte 0x60 || eqb byte 0x6C) ⌝ }
 {
-    x as usize
+    (byte == JSI) | (byte == RETURN)
 }
 
-// Visits each address that is reached from 0100, in the order in which they are found; answers whether all obey the rules.
+// How a walk ends: a rule fails where every assignment has a mark; or at this place of the queue, where a call or a return is next, or
+// nothing, with so many addresses in the queue.
+enum Stop {
+    Refuted,
+    At(usize, usize),
+}
+
+// Visits the addresses from place `first` of the queue on, up to a call or a return.
+fn walk(
+    rows: &[u8; 1280],
+    program: &[u8],
+    sheet: &mut [u8],
+    queue: &mut [u16; 4096],
+    first: usize,
+    listed: usize,
+) -> Stop
+    requires { ⌜ RowTable (now rows) × Listed (now program) (now sheet) (now queue) listed × (first ≤ listed) ⌝ }
+    ensures { λ w. ⌜ Walked (now (program .entry)) (now (sheet .entry)) (now (queue .entry)) first listed (now (sheet .exit)) (now (queue .exit)) w ⌝ }
+{
+    let mut head = first;
+    let mut tail = listed;
+    while head < tail {
+        let i = wide(queue[head]);
+        if of_routines(program[i]) {
+            return Stop::At(head, tail);
+        }
+        let Next::Queued(more) = visit(rows, program, sheet, queue, tail, i) else {
+            return Stop::Refuted;
+        };
+        tail = more;
+        head += 1;
+    }
+    Stop::At(head, tail)
+}
+
+// ---- calls and returns
+
+// The call or return at place `head` of the queue.
+fn visit_routine(
+    rows: &[u8; 1280],
+    program: &[u8],
+    sheet: &mut [u8],
+    queue: &mut [u16; 4096],
+    tail: usize,
+    head: usize,
+    routines: &mut [u16; 4096],
+    before: &mut [u16; 4096],
+) -> Next
+    requires { ⌜ RowTable (now rows) × Visit (now program) (now sheet) (now queue) tail head (now routines) (now before)
+        × OfRoutines (getD (now program) (getD (now queue) head 0) 0) ⌝ }
+    ensures { λ n. ⌜ Outcome (now (program .entry)) (now (sheet .entry)) (now (queue .entry)) tail (now (sheet .exit)) (now (queue .exit))
+        (Visited (now (program .entry)) (now (sheet .exit)) (now (queue .exit)) head (placed (now (queue .entry)) head) (now (routines .exit)) (now (before .exit))) n ⌝ }
+{
+    let i = wide(queue[head]);
+    let Depths::After(_, work, ret) = depths_after(rows, program, sheet, i) else {
+        return Next::Refuted;
+    };
+    if program[i] == RETURN {
+        return leave(program, sheet, queue, tail, head, routines, before);
+    }
+    call(
+        program,
+        sheet,
+        queue,
+        tail,
+        head,
+        routines,
+        before,
+        i,
+        work,
+        ret,
+    )
+}
+
+// Visits the addresses from place `first` of the queue on, which has the first call or return that is met.
+fn explore_routines(
+    rows: &[u8; 1280],
+    program: &[u8],
+    sheet: &mut [u8],
+    queue: &mut [u16; 4096],
+    first: usize,
+    listed: usize,
+) -> bool
+    requires { ⌜ RowTable (now rows) × Going (now program) (now sheet) (now queue) first listed (replicate admitMost 0) (replicate admitMost 0)
+        × Met (now program) (now queue) first listed ⌝ }
+    ensures { λ b. ⌜ Explored (now (program .entry)) (now (sheet .exit)) b ⌝ }
+{
+    let mut routines = [0u16; 4096];
+    let mut before = [0u16; 4096];
+    let mut head = first;
+    let mut tail = listed;
+    while head < tail {
+        let next = visit_routine(
+            rows,
+            program,
+            sheet,
+            queue,
+            tail,
+            head,
+            &mut routines,
+            &mut before,
+        );
+        let Next::Queued(more) = next else {
+            return false;
+        };
+        let Stop::At(at, end) = walk(rows, program, sheet, queue, head + 1, more) else {
+            return false;
+        };
+        head = at;
+        tail = end;
+    }
+    true
+}
+
+// ---- from the first address on
+
+// Visits each address that is reached from 0100, in the order in which they are found; answers whether all obey the rules. The arrays
+// for calls and returns are made when the first one is met.
 fn explore(program: &[u8], sheet: &mut [u8]) -> bool
     requires { ⌜ Proper (now program) (now sheet) ⌝ }
     ensures { λ b. ⌜ Explored (now (program .entry)) (now (sheet .exit)) b ⌝ }
@@ -211,23 +280,19 @@ fn explore(program: &[u8], sheet: &mut [u8]) -> bool
     let rows = table();
     let mut queue = [0u16; 4096];
     unmark(program, sheet);
-    mark(sheet, 0, 0, 0);
-    let mut head = 0;
-    let mut tail = 1;
-    while head < tail {
-        let i = wide(queue[head]);
-        let Next::Queued(more) = visit(&rows, program, sheet, &mut queue, tail, i) else {
-            return false;
-        };
-        tail = more;
-        head += 1;
+    mark(sheet, 0, 0, 0, START);
+    let Stop::At(head, tail) = walk(&rows, program, sheet, &mut queue, 0, 1) else {
+        return false;
+    };
+    if head == tail {
+        return true;
     }
-    true
+    explore_routines(&rows, program, sheet, &mut queue, head, tail)
 }
 
 // ---- the call
 
-// "Admit a program into a sheet": 5 "program empty", 9 "above 4,096 bytes", 10 "sheet not four times the program length" leave the
+// "Admit a program into a sheet": 5 "program empty", 9 "above 4,096 bytes", 10 "not eight times the program length" leave the
 // sheet as found; 11 "no assignment" leaves it all zero.
 pub fn admit(program: &[u8], sheet: &mut [u8]) -> AdmitReply
     ensures { λ r. ⌜ ofAdmit (now (sheet .exit)) r ≡ admitCall (now (program .entry)) (now (sheet .entry)) ⌝ }

@@ -1,16 +1,19 @@
 // The calls as a static library for C: include/uxn_filter.h declares them, and says what each number means.
 use creply::Reply;
+use creply::Written;
 use creply::of_admit;
 use creply::of_event;
 use creply::of_frame;
 use creply::of_load;
 use creply::of_run;
 use creply::of_step;
+use creply::of_write;
 use model::Machine;
 ghost use mathlib.Core.Path.{_≡_};
 ghost use Rattle.model.specs.Machine.{state};
 ghost use Rattle.model.specs.Calls.{loadCall, stepCall, runCall, eventCall, frameCall, admitCall};
-ghost use Rattle.creply.specs.Exported.{returned, exported, admitReturned, exportedAdmit};
+ghost use Rattle.model.specs.Moves.{widenCall, narrowCall};
+ghost use Rattle.creply.specs.Exported.{returned, exported, admitReturned, exportedAdmit, writeReturned, exportedWrite};
 
 #[no_mangle]
 pub extern "C" fn uxn_load(
@@ -93,4 +96,18 @@ pub extern "C" fn uxn_admit(program: &[u8], sheet: &mut [u8]) -> u8
     ensures { λ r. ⌜ admitReturned r (now (sheet .exit)) ≡ exportedAdmit (admitCall (now (program .entry)) (now (sheet .entry))) ⌝ }
 {
     of_admit(admission::admit(program, sheet))
+}
+
+#[no_mangle]
+pub extern "C" fn uxn_widen_sheet(sheet: &[u8], output: &mut [u8]) -> Written
+    ensures { λ r. ⌜ writeReturned r (now (output .exit)) ≡ exportedWrite (widenCall (now (sheet .entry)) (now (output .entry))) ⌝ }
+{
+    of_write(moves::widen_sheet(sheet, output))
+}
+
+#[no_mangle]
+pub extern "C" fn uxn_narrow_sheet(sheet: &[u8], output: &mut [u8]) -> Written
+    ensures { λ r. ⌜ writeReturned r (now (output .exit)) ≡ exportedWrite (narrowCall (now (sheet .entry)) (now (output .entry))) ⌝ }
+{
+    of_write(moves::narrow_sheet(sheet, output))
 }

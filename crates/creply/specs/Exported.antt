@@ -5,8 +5,10 @@ use Rattle.model.specs.Machine.{registers}
 use Rattle.model.specs.Run.{Answer, Reply}
 use Rattle.model.specs.Run.Answer.{Refused, Loaded, WentOn, Broke, Spent, Ignored, Admitted}
 use Rattle.model.specs.Calls.{numberOf, AdmitResult}
+use Rattle.model.specs.Writes.{WriteResult}
 use Rattle.model.specs.declared.Machine.{Machine}
 use Rattle.creply.specs.declared.Reply as C
+use Rattle.creply.specs.declared.Written.{Written}
 
 pub record Returned : Type 0 where
   pub reply : C.Reply
@@ -52,3 +54,17 @@ admitReturned number sheet = record { number = number; sheet = sheet }
 
 abbrev pub exportedAdmit : AdmitResult → AdmitReturned
 exportedAdmit r = admitReturned (numberOf (r .answer)) (r .sheet)
+
+-- What a call that writes leaves: the struct, whose line is 0, and the output.
+pub record WriteReturned : Type 0 where
+  pub reply : Written
+  pub output : List ℕ
+
+abbrev pub wroteStruct : ℕ → ℕ → Written
+wroteStruct length number = record { length = length; line = 0; number = number }
+
+abbrev pub writeReturned : Written → List ℕ → WriteReturned
+writeReturned reply output = record { reply = reply; output = output }
+
+abbrev pub exportedWrite : WriteResult → WriteReturned
+exportedWrite r = writeReturned (wroteStruct (r .length) (r .number)) (r .output)

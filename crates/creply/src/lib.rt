@@ -6,12 +6,13 @@ use model::LoadReply;
 use model::Machine;
 use model::RunReply;
 use model::StepReply;
+use model::WriteReply;
 ghost use mathlib.Core.Path.{_≡_};
 ghost use mathlib.Core.List.{List};
 ghost use Prim.Native.Nat.{ℕ};
 ghost use Rattle.model.specs.Machine.{state};
-ghost use Rattle.model.specs.Replies.{ofLoad, ofStep, ofRun, ofEvent, ofFrame, ofAdmit};
-ghost use Rattle.creply.specs.Exported.{refusedStruct, doneStruct, returned, exported, admitReturned, exportedAdmit};
+ghost use Rattle.model.specs.Replies.{ofLoad, ofStep, ofRun, ofEvent, ofFrame, ofAdmit, ofWrite};
+ghost use Rattle.creply.specs.Exported.{refusedStruct, doneStruct, wroteStruct, returned, exported, admitReturned, exportedAdmit, writeReturned, exportedWrite};
 
 // The answers, as numbers.
 pub const REFUSED: u8 = 0;
@@ -37,6 +38,15 @@ pub struct Reply {
     pub verdict: u8,
 }
 
+// What a call that writes to a lent output replies: how many bytes it wrote, a line, which is 0 here, and the number of the
+// refusal or 0.
+#[repr(C)]
+pub struct Written {
+    pub length: usize,
+    pub line: u32,
+    pub number: u8,
+}
+
 fn refused(number: u8, machine: Machine) -> Reply
     ensures { λ r. ⌜ r ≡ refusedStruct number machine ⌝ }
 {
@@ -58,6 +68,16 @@ fn done(answer: u8, machine: Machine, steps: u32, verdict: u8) -> Reply
         number: 0,
         answer,
         verdict,
+    }
+}
+
+fn wrote(length: usize, number: u8) -> Written
+    ensures { λ r. ⌜ r ≡ wroteStruct length number ⌝ }
+{
+    Written {
+        length,
+        line: 0,
+        number,
     }
 }
 
@@ -118,5 +138,14 @@ pub fn of_admit(reply: AdmitReply) -> u8
     match reply {
         AdmitReply::Refused(n) => n,
         AdmitReply::Admitted => 0,
+    }
+}
+
+pub fn of_write(reply: WriteReply) -> Written
+    ensures { λ r. ⌜ ((output : List ℕ) → writeReturned r output ≡ exportedWrite (ofWrite output reply)) ⌝ }
+{
+    match reply {
+        WriteReply::Refused(n) => wrote(0, n),
+        WriteReply::Written(length) => wrote(length, 0),
     }
 }

@@ -1,18 +1,20 @@
--- Demand 3 at one filter and one list of calls: its hypotheses can be met, and its calls are run and refused as they should be.
+-- Demand 3 at two filters, each with a list of calls: its hypotheses can be met, and its calls are run and refused as they should
+-- be.
 -- Assumes nothing.
 use mathlib.Core.Path.{_≡_, refl}
-use mathlib.Core.Bool.{Bool, true, _&&_}
+use mathlib.Core.Bool.{Bool, true, cond, _&&_}
 use mathlib.Core.List.{List, [], _∷_}
 use Prim.Native.Nat.{ℕ, _*_, _-_}
-use lib.Dec.{T, ltb, ltb→lt}
+use lib.Dec.{T, eqb, ltb, ltb→lt}
 use lib.ListN.{replicate}
 use borrow.Author.Tests.{eqb-false}
 use Rattle.model.specs.Bytes.{Bytes, zeros}
 use Rattle.model.specs.Machine.{memorySize, pageSize, stackSize, State}
-use Rattle.model.specs.Run.{Answer}
+use Rattle.model.specs.Step.{fetched, step}
+use Rattle.model.specs.Run.{Answer, trace}
 use Rattle.model.specs.Run.Answer.{Refused, Loaded, Broke, Spent, Admitted}
 use Rattle.model.specs.Admission.{sheetRecord}
-use Rattle.model.specs.Calls.{loadCall, frameCall, admitCall}
+use Rattle.model.specs.Calls.{loadCall, frameCall, frameTrace, admitCall}
 use Rattle.model.specs.Cases.{used, frameRecord}
 use Rattle.model.specs.Demand3.{Filling, Lent, Call, filled, given, handedBack, called, next, Safe}
 use Rattle.model.specs.Demand3.Lent.{own, other}
@@ -110,3 +112,50 @@ pub answers : replies (loadCall filter used .state) calls
     ≡ (Broke, 46, 1) ∷ (Refused 8, 0, 0) ∷ (Refused 7, 0, 0) ∷ (Refused 1, 0, 0) ∷ (Refused 2, 0, 0) ∷ (Spent, 0, 0) ∷ (Spent, 20, 0) ∷ (Broke, 35, 0) ∷ []
 unfolding calls filling filter used filled given handedBack calling
 answers = refl
+
+-- ---- C-19: a filter with subroutines, which passes the frames whose first two data bytes are the same
+
+unfoldable pub caller : List ℕ
+caller =
+    0x80 ∷ 0x82 ∷ 0x60 ∷ 0x00 ∷ 0x10 ∷ 0x80 ∷ 0x00 ∷ 0x11  -- 0100 LIT 82, JSI 0115, LIT 00, STZ: the first of them
+    ∷ 0x80 ∷ 0x83 ∷ 0x60 ∷ 0x00 ∷ 0x08 ∷ 0x80 ∷ 0x00 ∷ 0x10  -- 0108 LIT 83, JSI 0115, LIT 00, LDZ: the second, and the first
+    ∷ 0x08 ∷ 0x80 ∷ 0xF2 ∷ 0x17 ∷ 0x00  -- 0110 EQU, LIT F2, DEO, BRK: the verdict
+    ∷ 0x60 ∷ 0x00 ∷ 0x01 ∷ 0x6C  -- 0115 JSI 0119, JMP2r
+    ∷ 0x10 ∷ 0x6C  -- 0119 LDZ, JMP2r
+    ∷ []
+
+caller-bytes : Bytes caller
+unfolding caller
+caller-bytes = all-bytes caller tt
+
+pub sameBytes : Call
+sameBytes = call own own own own (frameRecord 2 (0x05 ∷ 0x05 ∷ [])) tt 100
+
+pub otherBytes : Call
+otherBytes = call own own own own (frameRecord 2 (0x05 ∷ 0x06 ∷ [])) tt 100
+
+caller-admits : admitCall caller (zeros (sheetRecord * 27)) .answer ≡ Admitted
+unfolding caller calling
+caller-admits = refl
+
+caller-loads : loadCall caller used .answer ≡ Loaded
+unfolding caller used calling
+caller-loads = refl
+
+pub caller-instance : Safe caller (admitCall caller (zeros (sheetRecord * 27)) .sheet) (loadCall caller used .state) (sameBytes ∷ otherBytes ∷ [])
+caller-instance = demand3 .safe caller (zeros (sheetRecord * 27)) caller-bytes caller-admits used caller-loads (sameBytes ∷ otherBytes ∷ [])
+
+pub caller-answers : replies (loadCall caller used .state) (sameBytes ∷ otherBytes ∷ []) ≡ (Broke, 20, 1) ∷ (Broke, 20, 0) ∷ []
+unfolding sameBytes otherBytes filling caller used filled given handedBack calling
+caller-answers = refl
+
+-- where each 6C of its first frame call lands: just after the JSI at 0115, then after the one at 0102; again after the one at 0115,
+-- then after the one at 010A
+abbrev pub landings : List State → List ℕ
+landings [] = []
+landings (s ∷ states) = cond (eqb (fetched s) 0x6C) (step s .pc ∷ landings states) (landings states)
+
+pub caller-lands : landings (frameTrace (sameBytes .frame) (sameBytes .budget) (called sameBytes (loadCall caller used .state)))
+    ≡ (0x0118 ∷ 0x0105 ∷ 0x0118 ∷ 0x010D ∷ [])
+unfolding sameBytes filling caller used filled given handedBack frameTrace trace calling
+caller-lands = refl

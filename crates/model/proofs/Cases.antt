@@ -11,10 +11,10 @@ use Rattle.model.specs.Step.{popWraps, pushWraps, stackWraps}
 use Rattle.model.specs.Run.{run}
 use Rattle.model.specs.Run.Answer.{Admitted}
 use Rattle.model.specs.Calls.{hasLength, unless, loadMost, load, loadCall, admitCall}
-use Rattle.model.specs.Cases.{Case, claimed, allClaimed, used, loadAndRun, allHold, starred, mistakes, sentences, example, exampleSheet, depthsFine, depthsNot, depthsAre, numbered, agree, summing, framesSeen, vectored, eventsSeen, wrapping, notWrapping, wrapsAre}
-use Rattle.model.proofs.Tests.{and-left, and-right, and-both, is-true, not-true}
+use Rattle.model.specs.Cases.{Case, claimed, allClaimed, used, loadAndRun, allHold, starred, mistakes, sentences, example, exampleSheet, callExample, callSheet, subroutines, depthsFine, depthsNot, callDepthsFine, callDepthsNot, depthsAre, rotateTests, callTests, numbered, agree, summing, framesSeen, vectored, eventsSeen, wrapping, notWrapping, wrapsAre, moveCases, allCome}
+use Rattle.model.proofs.Tests.{and-left, and-right, and-both, not-true}
 use Rattle.model.proofs.Numbers.{load-right, load-passed, load-sized, run-passed}
-use Rattle.model.proofs.Computing.{stepping, admitting, calling}
+use Rattle.model.proofs.Computing.{stepping, admitting, calling, moving}
 
 -- ---- a load and a run: neither is refused, so that only the run is to be computed
 
@@ -58,9 +58,13 @@ pub starred-hold : T (allHold starred)
 unfolding starred allClaimed claimed calling
 starred-hold = all-hold starred tt
 
-pub example-sheet : admitCall example (zeros 24) ≡ record { answer = Admitted; sheet = exampleSheet }
+pub example-sheet : admitCall example (zeros 48) ≡ record { answer = Admitted; sheet = exampleSheet }
 unfolding example exampleSheet calling
 example-sheet = refl
+
+pub call-sheet : admitCall callExample (zeros 56) ≡ record { answer = Admitted; sheet = callSheet }
+unfolding callExample callSheet calling
+call-sheet = refl
 
 pub mistakes-show : T (allHold mistakes)
 unfolding mistakes allClaimed claimed calling
@@ -70,9 +74,17 @@ pub sentences-hold : T (allHold sentences)
 unfolding sentences allClaimed claimed calling
 sentences-hold = all-hold sentences tt
 
-pub depths-hold : T (depthsAre true depthsFine) × T (depthsAre false depthsNot)
+pub subroutines-hold : T (allHold subroutines)
+unfolding subroutines allClaimed claimed calling
+subroutines-hold = all-hold subroutines tt
+
+pub depths-hold : T (depthsAre rotateTests true depthsFine) × T (depthsAre rotateTests false depthsNot)
 unfolding depthsAre depthsFine depthsNot admitting
 depths-hold = (tt, tt)
+
+pub call-depths-hold : T (depthsAre callTests true callDepthsFine) × T (depthsAre callTests false callDepthsNot)
+unfolding depthsAre callDepthsFine callDepthsNot admitting
+call-depths-hold = (tt, tt)
 
 pub numbers-hold : T (agree numbered)
 unfolding numbered used calling
@@ -89,3 +101,7 @@ events-hold = tt
 pub wraps-hold : T (wrapsAre true wrapping) × T (wrapsAre false notWrapping)
 unfolding wrapsAre wrapping notWrapping stackWraps popWraps pushWraps stepping
 wraps-hold = (tt, tt)
+
+pub moves-hold : T (allCome moveCases)
+unfolding moveCases allCome moving
+moves-hold = tt

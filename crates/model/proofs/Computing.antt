@@ -1,11 +1,13 @@
--- Names for groups of definitions: a proof that computes says `unfolding stepping`, `admitting` or `calling`. Assumes nothing.
+-- Names for groups of definitions: a proof that computes says `unfolding stepping`, `admitting`, `calling` or `moving`. Assumes nothing.
 use Rattle.model.specs.Bytes.{word, number, readRing, writeRing}
 use Rattle.model.specs.Machine.{pushed, popped, top, lowered, numbers, operands}
 use Rattle.model.specs.Instruction.{opOf, wide, size, returnMode, keepMode, shape, shapeOf, rowOf}
 use Rattle.model.specs.Step.{compared, computed, shifted, relative, address, effect, effectOn, words, mainAfter, otherAfter, written, applied, operated, execute, step}
 use Rattle.model.specs.Run.{run}
-use Rattle.model.specs.Admission.{byteAt, allowed, successors, markAt, ruleTests, fits, fitsFrom, assigns, markOne, markEach, follow, sweep, sweeps, reached, admitted, sheetOf}
+use Rattle.model.specs.Admission.{byteAt, allowed, afterOf, targetOf, successors, markAt, found, isCall, isReturn, ruleTests, routineTests, returned, fits, fitsFrom, assigns, markOne, markEach, follow, sweep, sweeps, reached, admitted, sheetOf}
 use Rattle.model.specs.Calls.{refusal, bufferRows, unless, loadRows, load, loadCall, stepCall, runCall, eventRows, vector, eventCall, wellFormed, frameRows, framed, frameCall, admitRows, admitBy, admitCall}
+use Rattle.model.specs.Writes.{writeUnless}
+use Rattle.model.specs.Moves.{wrongOld, wrongNew, staysNew, widened, narrowed, pieces, recordsOf, someRecord, eachRecord, wrongSheet, widenedSheet, narrowedSheet, widenRows, widenCall, narrowRows, narrowCall}
 
 -- the row of a byte
 unfoldable pub decoding : Unit {0}
@@ -19,10 +21,15 @@ stepping = tt
 
 -- an admission
 unfoldable pub admitting : Unit {0}
-unfolding byteAt allowed successors markAt ruleTests fits fitsFrom assigns markOne markEach follow sweep sweeps reached admitted sheetOf number decoding
+unfolding byteAt allowed afterOf targetOf successors markAt found isCall isReturn ruleTests routineTests returned fits fitsFrom assigns markOne markEach follow sweep sweeps reached admitted sheetOf number decoding
 admitting = tt
 
 -- the calls
 unfoldable pub calling : Unit {0}
 unfolding refusal bufferRows unless loadRows load loadCall stepCall runCall eventRows vector eventCall wellFormed frameRows framed frameCall admitRows admitBy admitCall run stepping admitting
 calling = tt
+
+-- the moves of sheets
+unfoldable pub moving : Unit {0}
+unfolding refusal writeUnless widenCall widenRows narrowCall narrowRows widenedSheet narrowedSheet wrongSheet eachRecord someRecord recordsOf pieces wrongOld wrongNew staysNew widened narrowed word number
+moving = tt

@@ -10,16 +10,14 @@ use lib.ListN.{length, getD}
 use lib.Seq.{ext-getD}
 use borrow.Author.Tests.{eq-eqb, ne-eqb, ltb-false, lt-ltb, le-ltb}
 use Rattle.model.specs.Run.Answer.{Admitted}
-use Rattle.model.specs.Admission.{Mark, admitMost, byteAt, Within, successors, Way, GoesOn, Assignment, markAt, reached, admitted, sheetRecord, recordOf, sheetOf, recordAt, markIn, Smallest}
+use Rattle.model.specs.Admission.{Mark, admitMost, byteAt, Within, Way, markAt, reached, admitted, sheetRecord, recordOf, sheetOf, recordAt, markIn, Smallest}
 use Rattle.model.specs.Admission.Mark.{unmarked, marked}
-use Rattle.model.specs.Admission.Way.{begin, go}
 use Rattle.model.specs.Machine.{start}
 use Rattle.model.specs.Calls.{refusal, admitRows, admitBy, admitCall}
 use Rattle.model.specs.Exactness.{Proper, Exact}
-use Rattle.model.proofs.Bytes.{among-every}
 use Rattle.model.proofs.Tests.{is-true}
 use Rattle.model.proofs.Rules.{parts, assigns-is}
-use Rattle.model.proofs.Reached.{reached-least, reached-only, admitted-exactly}
+use Rattle.model.proofs.Reached.{reached-least, reached-only, along, assigned-closed, admitted-exactly}
 use Rattle.model.proofs.Sheet.{length-sheet, record-byte, record-is, mark-in}
 use Rattle.model.proofs.Numbers.{no-rows, passed-over, given-by, none-says, right}
 
@@ -60,22 +58,17 @@ smallest program sheet ok =
       size = length-sheet marks program l;
       records = λ at h. rw (mark-in marks program l at) (record-is marks program at l h);
       assigned = rw e (assigns-is program marks (ok .fine));
-      least = λ f a at w r h. reached-least program f a at w r (sym (mark-in marks program l at) ∙ h);
+      least = λ f a at w r q h. reached-least program f a at w r q (sym (mark-in marks program l at) ∙ h);
     }
 
 -- ---- "just the addresses reached from 0100"
 
-on-the-way : (program : List ℕ) (marks : ℕ → Mark) → Assignment program marks → {at w r : ℕ} → Way program at w r → marks at ≡ marked w r
-on-the-way program marks a begin = a .first
-on-the-way program marks a (go {at} {w} {r} way among) =
-    among-every (GoesOn program marks) (successors program at w r) (a .rules at w r (on-the-way program marks a way) .on) among .1
-
 pub marked-exactly : (program sheet : List ℕ) → Passed program sheet
-    → (at w r : ℕ) → (markIn (admitCall program sheet .sheet) at ≡ marked w r) ↔ Way program at w r
+    → (at w r q : ℕ) → (markIn (admitCall program sheet .sheet) at ≡ marked w r q) ↔ Way program at w r q
 unfolding admitted
-marked-exactly program sheet ok at w r = (
-  λ h. reached-only program at w r (sym (mark-in (reached program) program l at) ∙ rw (ok .written) at h),
-  λ way. on-the-way program _ (smallest program sheet ok .assigned) way,
+marked-exactly program sheet ok at w r q = (
+  λ h. reached-only program at w r q (sym (mark-in (reached program) program l at) ∙ rw (ok .written) at h),
+  λ way. along program _ (assigned-closed program _ (smallest program sheet ok .assigned)) way,
 )
   where
     l : length (reached program) ≡ length program
@@ -131,8 +124,8 @@ module _ (program a b : List ℕ) (s : Smallest program a) (t : Smallest program
     where
       by : (x y : Mark) → markIn a at ≡ x → markIn b at ≡ y → x ≡ y
       by unmarked unmarked e f = refl
-      by unmarked (marked w r) e f = sym e ∙ t .least (markIn a) (s .assigned) at w r f
-      by (marked w r) y e f = sym (s .least (markIn b) (t .assigned) at w r e) ∙ f
+      by unmarked (marked w r q) e f = sym e ∙ t .least (markIn a) (s .assigned) at w r q f
+      by (marked w r q) y e f = sym (s .least (markIn b) (t .assigned) at w r q e) ∙ f
 
   same-record : (i : ℕ) → i < length program → recordAt a (start + i) ≡ recordAt b (start + i)
   same-record i h =

@@ -8,9 +8,11 @@ pub mod Exactness
 pub mod Fitting
 pub mod Lists
 pub mod Marked
+pub mod Moves
 pub mod Numbers
 pub mod Reached
 pub mod Refusals
+pub mod Routines
 pub mod Rules
 pub mod Runs
 pub mod Sheet

@@ -2,7 +2,7 @@
 use mathlib.Core.Path.{_≡_, refl, ap, _∙_}
 use mathlib.Core.Bool.{Bool, true, false, cond}
 use mathlib.Core.List.{List, [], _∷_, _++_}
-use Prim.Native.Nat.{ℕ, zero, suc, _+_, _-_, _*_, _<_}
+use Prim.Native.Nat.{ℕ, zero, suc, _+_, _-_, _*_, _/_, _%_, _<_}
 use native.Mathlib.Decide.{decLt}
 use native.Mathlib.Omega.{arith}
 use lib.Dec.{ltb}
@@ -15,7 +15,7 @@ use Rattle.model.specs.Admission.Mark.{unmarked, marked}
 
 length-record : (x : Mark) (byte : ℕ) → length (recordOf x byte) ≡ sheetRecord
 length-record unmarked byte = refl
-length-record (marked w r) byte = refl
+length-record (marked w r q) byte = refl
 
 pub length-sheet : (marks : List Mark) (program : List ℕ) → length marks ≡ length program
     → length (sheetOf marks program) ≡ sheetRecord * length program
@@ -49,7 +49,7 @@ record-index (x ∷ marks) (byte ∷ program) zero l h = first-record x byte (sh
 record-index (x ∷ marks) (byte ∷ program) (suc i) l h =
     ap (take sheetRecord) (next-record x byte i (sheetOf marks program)) ∙ record-index marks program i (omega arith) (omega arith)
 
--- "one 4-byte record per program byte .. mark (0 or 1), working depth, return depth, the program byte"
+-- "one .. record per program byte: mark (0 or 1), working depth, return depth, the program byte", "the routine (two bytes), two zeros"
 pub record-is : (marks : List Mark) (program : List ℕ) (at : ℕ) → length marks ≡ length program → Within program at
     → recordAt (sheetOf marks program) at ≡ recordOf (markAt marks at) (byteAt program at)
 unfolding markAt byteAt
@@ -58,7 +58,7 @@ record-is marks program at l h =
 
 mark-of : (x : Mark) (byte : ℕ) → markOf (recordOf x byte) ≡ x
 mark-of unmarked byte = refl
-mark-of (marked w r) byte = refl
+mark-of (marked w r q) byte = let e : q / 256 * 256 + q % 256 ≡ q = omega arith in ap (marked w r) e
 
 -- the marks read from the sheet
 pub mark-in : (marks : List Mark) (program : List ℕ) → length marks ≡ length program → (at : ℕ)

@@ -5,9 +5,10 @@ use mathlib.Core.List.{List, [], _∷_, _++_}
 use Prim.Native.Nat.{ℕ, zero, suc, _+_, _*_, _%_, _≤_, _<_}
 use native.Mathlib.Omega.{arith}
 use lib.Dec.{lit<}
-use lib.ListN.{length, getD, take, drop, length-append, length-set}
+use lib.ListN.{length, getD, set, take, drop, length-append, length-set}
+use lib.Seq.{getD-set-same, getD-set-other}
 use Rattle.model.specs.Bytes.{Bytes, readRing, sum}
-use Rattle.model.specs.Machine.{Stack, stack, push, pushed, down, popped, top, lowered, numbers, three, operands}
+use Rattle.model.specs.Machine.{stackSize, Stack, stack, push, pushed, down, popped, top, lowered, numbers, three, operands}
 use Rattle.model.proofs.Bytes.{nil-bytes, cons-bytes, tail-bytes, append-bytes, set-bytes, take-bytes, drop-bytes, read-mod, read-last, number-fits}
 
 -- ---- pointers
@@ -65,6 +66,37 @@ top-ring (suc n) bytes p =
     let e : (down p + 255 * n) % 256 ≡ (p + 255 * suc n) % 256 = omega arith in
     let f : down p ≡ (p + 255 * suc n + n) % 256 = omega arith in
     rw (top-ring n bytes (down p), read-mod 256 bytes _ _ n e, f) (sym (read-last 256 bytes (p + 255 * suc n) n))
+
+-- ---- where nothing goes round
+
+-- pushes leave the bytes below the pointer
+pub pushed-below : (bs : List ℕ) (s : Stack) (i : ℕ) → i < s .pointer → s .pointer + length bs ≤ 255
+    → getD (pushed bs s .bytes) i 0 ≡ getD (s .bytes) i 0
+unfolding pushed
+pushed-below [] s i h l = refl
+pushed-below (b ∷ bs) s i h l =
+    pushed-below bs (push b s) i (omega arith) (omega arith) ∙ getD-set-other (s .bytes) (s .pointer) i b 0 (λ e. omega arith)
+
+-- two bytes that are pushed
+pub pushed-two : (a b : ℕ) (s : Stack) → length (s .bytes) ≡ stackSize → s .pointer + 2 ≤ 255
+    → (getD (pushed (a ∷ b ∷ []) s .bytes) (s .pointer) 0 ≡ a) × (getD (pushed (a ∷ b ∷ []) s .bytes) (s .pointer + 1) 0 ≡ b)
+unfolding pushed
+pushed-two a b s z l =
+    let p = s .pointer in
+    let e : (p + 1) % 256 ≡ p + 1 = omega arith in
+    let one = set (s .bytes) p a in (
+      rw e (getD-set-other one (p + 1) p b 0 (λ i. omega arith) ∙ getD-set-same (s .bytes) p a 0 (omega arith)),
+      rw e (getD-set-same one (p + 1) b 0 (omega (arith, length-set (s .bytes) p a))),
+    )
+
+-- two bytes that are popped
+pub top-two : (s : Stack) (k : ℕ) → s .pointer ≡ k + 2 → k + 2 ≤ 255
+    → top 2 s ≡ getD (s .bytes) k 0 ∷ getD (s .bytes) (k + 1) 0 ∷ []
+unfolding top
+top-two s k e l =
+    let a : down (s .pointer) ≡ k + 1 = omega arith in
+    let b : down (k + 1) ≡ k = omega arith in
+    rw (a, b)
 
 -- ---- operands are numbers of 16 bits
 

@@ -173,7 +173,7 @@ pub record AdmitResult : Type 0 where
   pub answer : Answer
   pub sheet : List ℕ
 
--- "program empty", "above 4,096 bytes", "sheet not four times the program length", "no assignment"
+-- "program empty", "above 4,096 bytes", C-19: "not eight times the program length", "no assignment"
 unfoldable pub admitRows : List ℕ → List ℕ → List Row
 admitRows program sheet =
     (5, hasLength program 0)

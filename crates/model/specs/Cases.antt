@@ -1,5 +1,6 @@
 -- Document 01, "Bench sheet": the cases marked *, as programs and what is claimed of them, and the sheet of its example;
--- with the mistakes that it names, further sentences, the numbered replies, frame and event calls, and steps that wrap a stack.
+-- with the mistakes that it names, further sentences, document 02's C-19, the numbered replies, frame and event calls, steps that
+-- wrap a stack, and moves of sheets.
 -- Assumes nothing.
 use mathlib.Core.Bool.{Bool, true, false, Bool·beq, _&&_}
 use mathlib.Core.List.{List, [], _∷_, _++_}
@@ -13,6 +14,8 @@ use Rattle.model.specs.Step.{stackWraps}
 use Rattle.model.specs.Admission.{all, ruleTests, sheetRecord}
 use Rattle.model.specs.Run.{Answer, Reply}
 use Rattle.model.specs.Run.Answer.{Refused, Loaded, WentOn, Broke, Spent, Ignored, Admitted}
+use Rattle.model.specs.Writes.{WriteResult, written, unwritten}
+use Rattle.model.specs.Moves.{widenCall, narrowCall}
 use Rattle.model.specs.Calls.{numberOf, frameSize, loadCall, stepCall, runCall, eventCall, frameCall, admitCall}
 
 -- what may be claimed: the answer of the run, its steps, the counter and a stack's pointer afterwards, all the bytes of a
@@ -137,12 +140,27 @@ example = 0x80 ∷ 0x01 ∷ 0x80 ∷ 0xF2 ∷ 0x17 ∷ 0x00 ∷ []
 
 unfoldable pub exampleSheet : List ℕ
 exampleSheet =
-    0x01 ∷ 0x00 ∷ 0x00 ∷ 0x80
-    ∷ 0x00 ∷ 0x00 ∷ 0x00 ∷ 0x01
-    ∷ 0x01 ∷ 0x01 ∷ 0x00 ∷ 0x80
-    ∷ 0x00 ∷ 0x00 ∷ 0x00 ∷ 0xF2
-    ∷ 0x01 ∷ 0x02 ∷ 0x00 ∷ 0x17
-    ∷ 0x01 ∷ 0x00 ∷ 0x00 ∷ 0x00
+    0x01 ∷ 0x00 ∷ 0x00 ∷ 0x80 ∷ 0x01 ∷ 0x00 ∷ 0x00 ∷ 0x00
+    ∷ 0x00 ∷ 0x00 ∷ 0x00 ∷ 0x01 ∷ 0x00 ∷ 0x00 ∷ 0x00 ∷ 0x00
+    ∷ 0x01 ∷ 0x01 ∷ 0x00 ∷ 0x80 ∷ 0x01 ∷ 0x00 ∷ 0x00 ∷ 0x00
+    ∷ 0x00 ∷ 0x00 ∷ 0x00 ∷ 0xF2 ∷ 0x00 ∷ 0x00 ∷ 0x00 ∷ 0x00
+    ∷ 0x01 ∷ 0x02 ∷ 0x00 ∷ 0x17 ∷ 0x01 ∷ 0x00 ∷ 0x00 ∷ 0x00
+    ∷ 0x01 ∷ 0x00 ∷ 0x00 ∷ 0x00 ∷ 0x01 ∷ 0x00 ∷ 0x00 ∷ 0x00
+    ∷ []
+
+-- C-19: a call of the routine at 0104, which pushes a byte, and BRK after it
+unfoldable pub callExample : List ℕ
+callExample = 0x60 ∷ 0x00 ∷ 0x01 ∷ 0x00 ∷ 0x80 ∷ 0x07 ∷ 0x6C ∷ []
+
+unfoldable pub callSheet : List ℕ
+callSheet =
+    0x01 ∷ 0x00 ∷ 0x00 ∷ 0x60 ∷ 0x01 ∷ 0x00 ∷ 0x00 ∷ 0x00
+    ∷ 0x00 ∷ 0x00 ∷ 0x00 ∷ 0x00 ∷ 0x00 ∷ 0x00 ∷ 0x00 ∷ 0x00
+    ∷ 0x00 ∷ 0x00 ∷ 0x00 ∷ 0x01 ∷ 0x00 ∷ 0x00 ∷ 0x00 ∷ 0x00
+    ∷ 0x01 ∷ 0x01 ∷ 0x00 ∷ 0x00 ∷ 0x01 ∷ 0x00 ∷ 0x00 ∷ 0x00
+    ∷ 0x01 ∷ 0x00 ∷ 0x02 ∷ 0x80 ∷ 0x01 ∷ 0x04 ∷ 0x00 ∷ 0x00
+    ∷ 0x00 ∷ 0x00 ∷ 0x00 ∷ 0x07 ∷ 0x00 ∷ 0x00 ∷ 0x00 ∷ 0x00
+    ∷ 0x01 ∷ 0x01 ∷ 0x02 ∷ 0x6C ∷ 0x01 ∷ 0x04 ∷ 0x00 ∷ 0x00
     ∷ []
 
 -- "Slips to strike out", where the cases above do not show them
@@ -196,6 +214,86 @@ sentences =
     (workIs (0x00 ∷ 0xA0 ∷ []) ∷ [])
     ∷ []
 
+-- C-19, "Subroutines"
+unfoldable pub subroutines : List Case
+subroutines =
+    -- a call and its return: 6C lands just after the call
+    case (0x60 ∷ 0x00 ∷ 0x01 ∷ 0x00 ∷ 0x6C ∷ []) enough
+    (answers Broke ∷ steps 3 ∷ counter 0x0104 ∷ retIs [] ∷ admission Admitted ∷ [])
+    -- "leaves with one working depth": the routine pushes a byte
+    ∷ case (0x60 ∷ 0x00 ∷ 0x01 ∷ 0x00 ∷ 0x80 ∷ 0x07 ∷ 0x6C ∷ []) enough
+    (answers Broke ∷ steps 4 ∷ counter 0x0104 ∷ workIs (0x07 ∷ []) ∷ admission Admitted ∷ [])
+    -- two calls of one routine: the first is found before the return, the second after it
+    ∷ case (0x60 ∷ 0x00 ∷ 0x04 ∷ 0x60 ∷ 0x00 ∷ 0x01 ∷ 0x00 ∷ 0x6C ∷ []) enough
+    (answers Broke ∷ steps 5 ∷ counter 0x0107 ∷ admission Admitted ∷ [])
+    -- two calls of one routine, each on a way of its own, both found before the return
+    ∷ case (0x80 ∷ 0x00 ∷ 0x20 ∷ 0x00 ∷ 0x04 ∷ 0x60 ∷ 0x00 ∷ 0x05 ∷ 0x00 ∷ 0x60 ∷ 0x00 ∷ 0x01 ∷ 0x00 ∷ 0x6C ∷ []) enough
+    (answers Broke ∷ steps 5 ∷ counter 0x0109 ∷ admission Admitted ∷ [])
+    -- a call in a routine: the return of 0104 is found after the one of 0108
+    ∷ case (0x60 ∷ 0x00 ∷ 0x01 ∷ 0x00 ∷ 0x60 ∷ 0x00 ∷ 0x01 ∷ 0x6C ∷ 0x6C ∷ []) enough
+    (answers Broke ∷ steps 5 ∷ counter 0x0104 ∷ admission Admitted ∷ [])
+    -- the routine stands before the call
+    ∷ case (0x40 ∷ 0x00 ∷ 0x01 ∷ 0x6C ∷ 0x60 ∷ 0xFF ∷ 0xFC ∷ 0x00 ∷ []) enough
+    (answers Broke ∷ steps 4 ∷ counter 0x0108 ∷ admission Admitted ∷ [])
+    -- two returns with one working depth
+    ∷ case (0x60 ∷ 0x00 ∷ 0x01 ∷ 0x00 ∷ 0x80 ∷ 0x01 ∷ 0x20 ∷ 0x00 ∷ 0x01 ∷ 0x6C ∷ 0x6C ∷ []) enough
+    (answers Broke ∷ steps 5 ∷ counter 0x0104 ∷ admission Admitted ∷ [])
+    -- two returns with two working depths
+    ∷ case (0x60 ∷ 0x00 ∷ 0x01 ∷ 0x00 ∷ 0x80 ∷ 0x01 ∷ 0x20 ∷ 0x00 ∷ 0x01 ∷ 0x6C ∷ 0x80 ∷ 0x05 ∷ 0x6C ∷ []) enough
+    (admission (Refused 11) ∷ [])
+    -- "Every call enters a routine with the same two depths": one with working depth 0, one with 1; one with return depth 0, one with 2
+    ∷ case (0x60 ∷ 0x00 ∷ 0x06 ∷ 0x80 ∷ 0x05 ∷ 0x60 ∷ 0x00 ∷ 0x01 ∷ 0x00 ∷ 0x6C ∷ []) enough
+    (admission (Refused 11) ∷ [])
+    ∷ case (0x60 ∷ 0x00 ∷ 0x04 ∷ 0x60 ∷ 0x00 ∷ 0x05 ∷ 0x00 ∷ 0x60 ∷ 0x00 ∷ 0x01 ∷ 0x6C ∷ 0x6C ∷ []) enough
+    (answers Broke ∷ steps 7 ∷ counter 0x0107 ∷ admission (Refused 11) ∷ [])
+    -- a routine may take return bytes that are above the floor: LITr 05 POPr
+    ∷ case (0x60 ∷ 0x00 ∷ 0x01 ∷ 0x00 ∷ 0xC0 ∷ 0x05 ∷ 0x42 ∷ 0x6C ∷ []) enough
+    (answers Broke ∷ steps 5 ∷ counter 0x0104 ∷ admission Admitted ∷ [])
+    -- "only 6C takes return bytes below the floor": POPr LITr 05, which makes another return address, and POPkr, which only reads
+    ∷ case (0x60 ∷ 0x00 ∷ 0x01 ∷ 0x00 ∷ 0x42 ∷ 0xC0 ∷ 0x05 ∷ 0x6C ∷ []) enough
+    (admission (Refused 11) ∷ [])
+    ∷ case (0x60 ∷ 0x00 ∷ 0x01 ∷ 0x00 ∷ 0xC2 ∷ 0x6C ∷ []) enough
+    (admission (Refused 11) ∷ [])
+    -- "it stands only at the floor": a byte is left above it
+    ∷ case (0x60 ∷ 0x00 ∷ 0x01 ∷ 0x00 ∷ 0xC0 ∷ 0x05 ∷ 0x6C ∷ []) enough
+    (admission (Refused 11) ∷ [])
+    -- "never in routine 0100"
+    ∷ case (0xE0 ∷ 0x01 ∷ 0x04 ∷ 0x6C ∷ 0x00 ∷ []) enough
+    (answers Broke ∷ steps 3 ∷ counter 0x0105 ∷ admission (Refused 11) ∷ [])
+    -- so no routine calls itself, nor does one that it calls call it, nor is 0100 called
+    ∷ case (0x60 ∷ 0x00 ∷ 0x01 ∷ 0x00 ∷ 0x60 ∷ 0xFF ∷ 0xFD ∷ 0x6C ∷ []) enough
+    (admission (Refused 11) ∷ [])
+    ∷ case (0x60 ∷ 0x00 ∷ 0x01 ∷ 0x00 ∷ 0x60 ∷ 0x00 ∷ 0x01 ∷ 0x6C ∷ 0x60 ∷ 0xFF ∷ 0xF9 ∷ 0x6C ∷ []) enough
+    (admission (Refused 11) ∷ [])
+    ∷ case (0x60 ∷ 0xFF ∷ 0xFD ∷ []) 7
+    (answers Spent ∷ admission (Refused 11) ∷ [])
+    -- "No address has two routines": 0107 jumps to 010A, which is called with the same depths
+    ∷ case (0x60 ∷ 0x00 ∷ 0x04 ∷ 0x60 ∷ 0x00 ∷ 0x04 ∷ 0x00 ∷ 0x40 ∷ 0x00 ∷ 0x00 ∷ 0x6C ∷ []) enough
+    (answers Broke ∷ steps 6 ∷ counter 0x0107 ∷ admission (Refused 11) ∷ [])
+    -- 0107 and 010A go on at 010D with the same depths
+    ∷ case (0x60 ∷ 0x00 ∷ 0x04 ∷ 0x60 ∷ 0x00 ∷ 0x04 ∷ 0x00 ∷ 0x40 ∷ 0x00 ∷ 0x03 ∷ 0x40 ∷ 0x00 ∷ 0x00 ∷ 0x6C ∷ []) enough
+    (admission (Refused 11) ∷ [])
+    -- code that one routine alone jumps to belongs to it
+    ∷ case (0x60 ∷ 0x00 ∷ 0x04 ∷ 0x60 ∷ 0x00 ∷ 0x01 ∷ 0x00 ∷ 0x40 ∷ 0x00 ∷ 0x03 ∷ 0x00 ∷ 0x00 ∷ 0x00 ∷ 0x6C ∷ []) enough
+    (answers Broke ∷ steps 7 ∷ counter 0x0107 ∷ admission Admitted ∷ [])
+    -- 0103 is in the routine and after its call
+    ∷ case (0x60 ∷ 0x00 ∷ 0x00 ∷ 0x6C ∷ []) enough
+    (admission (Refused 11) ∷ [])
+    -- "else the call doesn't mark it": the routine ends in BRK, and nothing stands after the call
+    ∷ case (0x40 ∷ 0x00 ∷ 0x01 ∷ 0x00 ∷ 0x60 ∷ 0xFF ∷ 0xFC ∷ []) enough
+    (answers Broke ∷ steps 3 ∷ counter 0x0104 ∷ admission Admitted ∷ [])
+    -- it returns, and nothing stands after the call
+    ∷ case (0x40 ∷ 0x00 ∷ 0x01 ∷ 0x6C ∷ 0x60 ∷ 0xFF ∷ 0xFC ∷ []) 3
+    (answers Spent ∷ admission (Refused 11) ∷ [])
+    -- JMP in other forms, with what it takes there, and BRK after it: LIT2r 0103 JMP2kr, LIT2 0103 JMP2, LITr 00 JMPr
+    ∷ case (0x60 ∷ 0x00 ∷ 0x01 ∷ 0x00 ∷ 0xE0 ∷ 0x01 ∷ 0x03 ∷ 0xEC ∷ 0x00 ∷ []) enough
+    (admission (Refused 11) ∷ [])
+    ∷ case (0x60 ∷ 0x00 ∷ 0x01 ∷ 0x00 ∷ 0xA0 ∷ 0x01 ∷ 0x03 ∷ 0x2C ∷ 0x00 ∷ []) enough
+    (admission (Refused 11) ∷ [])
+    ∷ case (0x60 ∷ 0x00 ∷ 0x01 ∷ 0x00 ∷ 0xC0 ∷ 0x00 ∷ 0x4C ∷ 0x00 ∷ []) enough
+    (admission (Refused 11) ∷ [])
+    ∷ []
+
 -- "Admission that .. takes depth 256 for 0": working depths at which ROT2 with keep, which takes six bytes and pushes six,
 -- passes all the rules but the last, and at which it does not
 unfoldable pub depthsFine : List ℕ
@@ -204,9 +302,22 @@ depthsFine = 6 ∷ 7 ∷ 249 ∷ []
 unfoldable pub depthsNot : List ℕ
 depthsNot = 0 ∷ 5 ∷ 250 ∷ 255 ∷ 256 ∷ []
 
-unfoldable pub depthsAre : Bool → List ℕ → Bool
-depthsAre b [] = true
-depthsAre b (w ∷ ws) = Bool·beq (all (ruleTests (0xA5 ∷ []) start w 0)) b && depthsAre b ws
+-- C-19: "the return depth two above the caller's": return depths at which JSI passes them, and at which it does not
+unfoldable pub callDepthsFine : List ℕ
+callDepthsFine = 0 ∷ 252 ∷ 253 ∷ []
+
+unfoldable pub callDepthsNot : List ℕ
+callDepthsNot = 254 ∷ 255 ∷ 256 ∷ []
+
+unfoldable pub depthsAre : (ℕ → List Bool) → Bool → List ℕ → Bool
+depthsAre tests b [] = true
+depthsAre tests b (depth ∷ depths) = Bool·beq (all (tests depth)) b && depthsAre tests b depths
+
+abbrev pub rotateTests : ℕ → List Bool
+rotateTests w = ruleTests (0xA5 ∷ []) start w 0
+
+abbrev pub callTests : ℕ → List Bool
+callTests r = ruleTests (0x60 ∷ 0x00 ∷ 0x00 ∷ []) start 0 r
 
 -- ---- "Numbered replies": the number that a call answers, 0 if it is not refused, and the one that it should
 
@@ -234,8 +345,8 @@ numbered =
     ∷ (numberOf (admitCall [] (0x00 ∷ []) .answer), 5)
     ∷ (numberOf (admitCall (replicate 4096 0x00) [] .answer), 10)
     ∷ (numberOf (admitCall (replicate 4097 0x00) [] .answer), 9)
-    ∷ (numberOf (admitCall (0x02 ∷ []) (zeros 5) .answer), 10)
-    ∷ (numberOf (admitCall (0x02 ∷ []) (zeros 4) .answer), 11)
+    ∷ (numberOf (admitCall (0x02 ∷ []) (zeros 4) .answer), 10)
+    ∷ (numberOf (admitCall (0x02 ∷ []) (zeros 8) .answer), 11)
     ∷ []
 
 abbrev pub agree : List (ℕ × ℕ) → Bool
@@ -342,3 +453,51 @@ notWrapping =
 unfoldable pub wrapsAre : Bool → List Place → Bool
 wrapsAre b [] = true
 wrapsAre b (x ∷ xs) = Bool·beq (stackWraps (x .stack) (x .byte) (x .pointer)) b && wrapsAre b xs
+
+-- ---- C-19, moves of sheets: a call, and what it comes to
+
+-- a marked record and one that is not marked, in the old form and in the new one
+abbrev pub oldPair : List ℕ
+oldPair = 1 ∷ 2 ∷ 3 ∷ 0xA0 ∷ 0 ∷ 0 ∷ 0 ∷ 0xF2 ∷ []
+
+abbrev pub newPair : List ℕ
+newPair = 1 ∷ 2 ∷ 3 ∷ 0xA0 ∷ 1 ∷ 0 ∷ 0 ∷ 0 ∷ 0 ∷ 0 ∷ 0 ∷ 0xF2 ∷ 0 ∷ 0 ∷ 0 ∷ 0 ∷ []
+
+unfoldable pub moveCases : List (WriteResult × WriteResult)
+moveCases =
+    (widenCall oldPair (zeros 16), written newPair (zeros 16))
+    ∷ (narrowCall newPair (zeros 8), written oldPair (zeros 8))
+    -- "the rest of it stays"
+    ∷ (widenCall (1 ∷ 255 ∷ 255 ∷ 9 ∷ []) (7 ∷ 7 ∷ 7 ∷ 7 ∷ 7 ∷ 7 ∷ 7 ∷ 7 ∷ 5 ∷ 6 ∷ []), record { number = 0; length = 8; output = 1 ∷ 255 ∷ 255 ∷ 9 ∷ 1 ∷ 0 ∷ 0 ∷ 0 ∷ 5 ∷ 6 ∷ [] })
+    -- no record at all
+    ∷ (widenCall [] (5 ∷ []), written [] (5 ∷ []))
+    ∷ (narrowCall [] [], written [] [])
+    -- "13 for a short output"
+    ∷ (widenCall oldPair (zeros 15), unwritten 13 (zeros 15))
+    ∷ (narrowCall newPair (zeros 7), unwritten 13 (zeros 7))
+    -- 18 comes first: "a part record"
+    ∷ (widenCall (0 ∷ 0 ∷ 0 ∷ []) [], unwritten 18 [])
+    ∷ (narrowCall (0 ∷ 0 ∷ 0 ∷ 0 ∷ []) [], unwritten 18 [])
+    -- "a mark above 1"
+    ∷ (widenCall (2 ∷ 0 ∷ 0 ∷ 0 ∷ []) [], unwritten 18 [])
+    ∷ (narrowCall (2 ∷ 0 ∷ 0 ∷ 0 ∷ 1 ∷ 0 ∷ 0 ∷ 0 ∷ []) [], unwritten 18 [])
+    -- "an unmarked record not 0 but for its program byte"
+    ∷ (widenCall (0 ∷ 0 ∷ 1 ∷ 0 ∷ []) [], unwritten 18 [])
+    ∷ (narrowCall (0 ∷ 0 ∷ 0 ∷ 0 ∷ 1 ∷ 0 ∷ 0 ∷ 0 ∷ []) [], unwritten 18 [])
+    -- "a marked routine 0 or last pair not 0", also after one that can not go back
+    ∷ (narrowCall (1 ∷ 0 ∷ 0 ∷ 0 ∷ 0 ∷ 0 ∷ 0 ∷ 0 ∷ []) [], unwritten 18 [])
+    ∷ (narrowCall (1 ∷ 0 ∷ 0 ∷ 0 ∷ 2 ∷ 0 ∷ 0 ∷ 0 ∷ 1 ∷ 0 ∷ 0 ∷ 0 ∷ 1 ∷ 0 ∷ 0 ∷ 1 ∷ []) [], unwritten 18 [])
+    -- "then 19 for one that can't go back", before 13
+    ∷ (narrowCall (1 ∷ 0 ∷ 0 ∷ 0 ∷ 1 ∷ 1 ∷ 0 ∷ 0 ∷ []) [], unwritten 19 [])
+    ∷ (narrowCall (1 ∷ 0 ∷ 0 ∷ 0 ∷ 2 ∷ 0 ∷ 0 ∷ 0 ∷ []) (zeros 4), unwritten 19 (zeros 4))
+    ∷ []
+
+abbrev pub comes : WriteResult × WriteResult → Bool
+comes pair =
+    eqb (pair .0 .number) (pair .1 .number)
+    && eqb (pair .0 .length) (pair .1 .length)
+    && sameBytes (pair .0 .output) (pair .1 .output)
+
+unfoldable pub allCome : List (WriteResult × WriteResult) → Bool
+allCome [] = true
+allCome (pair ∷ pairs) = comes pair && allCome pairs

@@ -1,13 +1,16 @@
--- Demand 3, in the user's words (quoted), with document 01's "What the inspector signs" (quoted, marked 01).
+-- Demand 3, in the user's words (quoted), with document 01's "What the inspector signs" (quoted, marked 01) and document 02's
+-- C-19.
 -- Assumes nothing.
 use mathlib.Core.Path.{_≡_}
-use mathlib.Core.Bool.{false}
+use mathlib.Core.Bool.{false, cond}
 use mathlib.Core.List.{List, [], _∷_, _++_}
 use Prim.Native.Nat.{ℕ}
+use lib.Dec.{eqb}
 use lib.ListN.{length, take, drop}
 use Rattle.model.specs.Bytes.{Every, Bytes}
 use Rattle.model.specs.Machine.{memorySize, pageSize, stackSize, start, State, state, registers}
-use Rattle.model.specs.Step.{wraps}
+use Rattle.model.specs.Instruction.{shapeOf}
+use Rattle.model.specs.Step.{nextOf, fetched, step, wraps}
 use Rattle.model.specs.Run.Answer.{Loaded, Admitted}
 use Rattle.model.specs.Admission.{Marked, recordByte}
 use Rattle.model.specs.Calls.{loadCall, frameCall, frameTrace, admitCall}
@@ -109,12 +112,31 @@ pub record Sound (filter sheet : List ℕ) (s : State) : Type 0 where
   -- "Before every step .. every byte of the filter in memory is the one loaded."
   pub intact : Intact filter s
 
--- along the list: "Before every step", and "after every call", and before the first one
+-- C-19: the calls that are open, the last one first, each by the address just after it. JSI opens one, 6C closes the last one,
+-- and another step leaves them
+abbrev pub openAfter : State → List ℕ → List ℕ
+openAfter s opened =
+    cond (eqb (fetched s) 0x60) (nextOf (shapeOf 0x60) s ∷ opened)
+    (cond (eqb (fetched s) 0x6C) (drop 1 opened)
+    opened)
+
+-- C-19: "each 6C lands just after its call": a step with 6C has an open call, and goes to the address just after the last one
+abbrev pub Lands : List ℕ → State → Type 0
+Lands [] s = fetched s ≡ 0x6C → ⊥
+Lands (after ∷ opened) s = fetched s ≡ 0x6C → step s .pc ≡ after
+
+-- so does each of the steps from these states on
+abbrev pub EachLands : List ℕ → List State → Type 0
+EachLands opened [] = Unit {0}
+EachLands opened (s ∷ states) = Lands opened s × EachLands (openAfter s opened) states
+
+-- along the list: "Before every step", and "after every call", and before the first one; a frame call starts with no call open
 abbrev pub Safe : (filter sheet : List ℕ) → State → List Call → Type 0
 Safe filter sheet s [] = Intact filter s
 Safe filter sheet s (c ∷ cs) =
     Intact filter s
     × Every (Sound filter sheet) (frameTrace (c .frame) (c .budget) (called c s))
+    × EachLands [] (frameTrace (c .frame) (c .budget) (called c s))
     × Safe filter sheet (next c s) cs
 
 pub record Demand3 : Type 0 where

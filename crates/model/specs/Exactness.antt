@@ -1,5 +1,5 @@
--- Document 01, "Admission rules" and the numbers 5, 9, 10 and 11: what an admission answers and leaves, for every program and
--- every sheet.
+-- Document 01, "Admission rules" and the numbers 5, 9, 10 and 11, with document 02's C-19: what an admission answers and leaves, for
+-- every program and every sheet.
 -- Assumes nothing.
 use mathlib.Core.Path.{_≡_}
 use mathlib.Core.Logic.{_↔_}
@@ -31,11 +31,11 @@ pub record Exact : Type 0 where
       → Smallest program (admitCall program sheet .sheet)
   -- "just the addresses reached from 0100"
   pub just : (program sheet : List ℕ) → admitCall program sheet .answer ≡ Admitted
-      → (at w r : ℕ) → (markIn (admitCall program sheet .sheet) at ≡ marked w r) ↔ Way program at w r
+      → (at w r q : ℕ) → (markIn (admitCall program sheet .sheet) at ≡ marked w r q) ↔ Way program at w r q
   -- 11: "no assignment", "sheet all zero"
   pub none : (program sheet : List ℕ) → Proper program sheet → (Assignable program → ⊥)
       → admitCall program sheet ≡ refused 11 (zeros (length sheet))
-  -- 5: "program empty"; 9: "above 4,096 bytes"; 10: "sheet not four times the program length"; each leaves the "sheet as found"
+  -- 5: "program empty"; 9: "above 4,096 bytes"; 10: C-19, "not eight times the program length"; each leaves the "sheet as found"
   pub empty : (program sheet : List ℕ) → length program ≡ 0 → admitCall program sheet ≡ refused 5 sheet
   pub long : (program sheet : List ℕ) → admitMost < length program → admitCall program sheet ≡ refused 9 sheet
   pub unfit : (program sheet : List ℕ) → 1 ≤ length program → length program ≤ admitMost

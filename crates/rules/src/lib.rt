@@ -7,43 +7,30 @@ ghost use mathlib.Core.Bool.{cond, not};
 ghost use Prim.Native.Nat.{_+_, _-_, _≤_, _<_};
 ghost use lib.ListN.{length};
 ghost use Rattle.model.specs.Machine.{start};
-ghost use Rattle.model.specs.Instruction.{keepMode, takenFrom, RowTable};
-ghost use Rattle.model.specs.Admission.{admitMost, allowed, depthAfter};
-ghost use Rattle.rules.specs.Depths.{jumpTarget, depthOr};
+ghost use lib.Dec.{ltb};
+ghost use Rattle.model.specs.Instruction.{keepMode, returning, takenFrom, lengthOf, RowTable};
+ghost use Rattle.model.specs.Admission.{admitMost, byteAt, allowed, depthAfter, targetOf};
 
 // A program stands at 0100 hexadecimal.
 const START: u16 = 0x0100;
 
+// The column of the table with what is taken from the return stack.
+const RETURNING: usize = 1;
+
 // In the table, what is pushed on a stack stands two columns after what is taken from it.
 const PUSHED: usize = 2;
 
-// Not "none of JMP, JCN, JSR, STR, STA in any mode, nor JSI".
+// A bit for each operation, byte modulo 32: JMP (0C), JCN (0D), JSR (0E), STR (13), STA (15).
+const FORBIDDEN: u32 = 0x0028_7000;
+
+// Not "none of JMP, JCN, JSR, STR, STA in any mode", but for "byte 6C".
 pub fn forbidden(byte: u8) -> bool
     ensures { λ r. ⌜ r ≡ not (allowed byte) ⌝ }
 {
-    let operation = byte % 32;
-    // JMP
-    if operation == 0x0C {
-        return true;
+    if byte == 0x6C {
+        return false;
     }
-    // JCN
-    if operation == 0x0D {
-        return true;
-    }
-    // JSR
-    if operation == 0x0E {
-        return true;
-    }
-    // STR
-    if operation == 0x13 {
-        return true;
-    }
-    // STA
-    if operation == 0x15 {
-        return true;
-    }
-    // JSI
-    byte == 0x60
+    (FORBIDDEN >> (byte % 32)) % 2 == 1
 }
 
 // What is gone of the bytes that an instruction takes: under keep nothing.
@@ -53,22 +40,26 @@ fn lowered(byte: u8, taken: u8) -> u8
     if 128 <= byte { 0 } else { taken }
 }
 
-// The depth of a stack after an instruction; 256, which no depth may be, where the stack does not hold "the bytes that it
-// takes, keep or not".
-fn depth_after(depth: u8, byte: u8, taken: u8, pushed: u8) -> u16
-    ensures { λ r. ⌜ r ≡ depthOr depth taken (depth - cond (keepMode byte) 0 taken + pushed) ⌝ }
+// The stack k, 0 the working stack and 1 the return stack, does not hold "the bytes that it takes, keep or not".
+pub fn lacks(rows: &[u8; 1280], byte: u8, k: usize, depth: u8) -> bool
+    requires { ⌜ RowTable (now rows) × (k < 2) ⌝ }
+    ensures { λ r. ⌜ r ≡ ltb depth (takenFrom k byte) ⌝ }
 {
-    let gone = lowered(byte, taken);
-    if depth < taken {
-        return 256;
-    }
-    (depth - gone) as u16 + pushed as u16
+    depth < entry(rows, byte, k)
 }
 
-// The same for the working stack, k = 0, and the return stack, k = 1, by the table.
+// The depth of a stack after an instruction that takes bytes which it holds.
+fn depth_after(depth: u8, byte: u8, taken: u8, pushed: u8) -> u16
+    requires { ⌜ taken ≤ depth ⌝ }
+    ensures { λ r. ⌜ r ≡ depth - cond (keepMode byte) 0 taken + pushed ⌝ }
+{
+    (depth - lowered(byte, taken)) as u16 + pushed as u16
+}
+
+// The same of the stack k, by the table.
 pub fn depth_by_table(rows: &[u8; 1280], byte: u8, k: usize, depth: u8) -> u16
-    requires { ⌜ RowTable (now rows) × (k < 2) ⌝ }
-    ensures { λ r. ⌜ r ≡ depthOr depth (takenFrom k byte) (depthAfter k byte depth) ⌝ }
+    requires { ⌜ RowTable (now rows) × (k < 2) × (takenFrom k byte ≤ depth) ⌝ }
+    ensures { λ r. ⌜ r ≡ depthAfter k byte depth ⌝ }
 {
     depth_after(
         depth,
@@ -78,10 +69,18 @@ pub fn depth_by_table(rows: &[u8; 1280], byte: u8, k: usize, depth: u8) -> u16
     )
 }
 
-// Where JMI, and JCI if it jumps, goes on from place i of the program: the offset is counted from the address after it.
+// It takes, keep or not, bytes of the return stack below this floor.
+pub fn below_floor(rows: &[u8; 1280], byte: u8, floor: u8, depth: u8) -> bool
+    requires { ⌜ RowTable (now rows) ⌝ }
+    ensures { λ r. ⌜ r ≡ ltb depth (floor + takenFrom returning byte) ⌝ }
+{
+    (depth as u16) < floor as u16 + entry(rows, byte, RETURNING) as u16
+}
+
+// Where JMI and JSI, and JCI if it jumps, go on from place i of the program: the offset is counted from the address after it.
 pub fn jump_target(program: &[u8], i: usize) -> u16
-    requires { ⌜ (i + 3 ≤ length (now program)) × (length (now program) ≤ admitMost) ⌝ }
-    ensures { λ r. ⌜ r ≡ jumpTarget (now (program .entry)) (start + i) ⌝ }
+    requires { ⌜ (lengthOf (byteAt (now program) (start + i)) ≡ 3) × (i + 3 ≤ length (now program)) × (length (now program) ≤ admitMost) ⌝ }
+    ensures { λ r. ⌜ r ≡ targetOf (now (program .entry)) (start + i) ⌝ }
 {
     wrapping_add_u16(
         START + 3 + i as u16,

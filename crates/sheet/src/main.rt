@@ -16,7 +16,7 @@ ghost use Rattle.model.specs.Admission.{sheetRecord};
 ghost use Rattle.model.specs.Calls.{numberOf, admitCall};
 ghost use Rattle.sheet.specs.Output.{output};
 
-const RECORD: usize = 4;
+const RECORD: usize = 8;
 
 // How many bytes of the sheet are to be written, and the number of the refusal, or 0.
 struct Made {
@@ -52,7 +52,7 @@ fn say_refused(number: u8) {
 fn usage(fd: i32) {
     io::write_all(
         fd,
-        b"usage: sheet < PROGRAM > SHEET\nWrites four bytes for each byte of the program: mark, working depth, return depth, the byte.\nA program that is not admitted gives nothing, and on standard error refused and the number:\n5 it is empty, 9 it is above 4,096 bytes, 11 no depths obey the admission rules.\n",
+        b"usage: sheet < PROGRAM > SHEET\nWrites eight bytes for each byte of the program: mark, working depth, return depth, the byte,\nthe routine (two bytes), two zeros.\nA program that is not admitted gives nothing, and on standard error refused and the number:\n5 it is empty, 9 it is above 4,096 bytes, 11 no depths and routines obey the admission rules.\n",
     );
 }
 
@@ -67,7 +67,7 @@ fn main() {
     }
     // One byte more than admission takes, so that a longer program is seen and refused.
     let mut program = [0u8; 4097];
-    let mut sheet = [0u8; 16388];
+    let mut sheet = [0u8; 32776];
     let Input::Bytes(n) = read_to_end(STDIN_FILENO, &mut program) else {
         os::fail(b"standard input");
         return;

@@ -38,7 +38,9 @@ fn main() {
     );
     println!("Growth: the number for each byte over that with 512 bytes; 1.00 is linear.");
     println!(
-        "straight: no jumps. backward: JMIs, each to the one before it. branches: a JCI in four bytes.\n"
+        "straight: no jumps. backward: JMIs, each to the one before it. branches: a JCI in four bytes.\n\
+         one routine: calls of it, one after the other. nested: 127 routines, each called by the one\n\
+         before it. late: branches with calls, which all wait for a return.\n"
     );
 
     let timed: Vec<Growth> = SHAPES

@@ -1,0 +1,18 @@
+-- `capi::uxn_narrow_sheet` meets its contract. Assumes nothing.
+use mathlib.Core.Path.{ap, _∙_}
+use Rattle.creply.specs.Exported.{exportedWrite}
+use borrow.Author.Needs.{needs}
+use Rattle.capi.proofs.uxn_narrow_sheet.Statement.{statement}
+use Rattle.capi.proofs.uxn_narrow_sheet.Tie as tie
+
+returns : tie.Need-returns
+returns c = c .of-write .ensures _ ∙ ap exportedWrite (c .before .before .before .narrow-sheet .ensures)
+
+pub uxn-narrow-sheet-spec : {M : Type 1} → statement M
+uxn-narrow-sheet-spec =
+    tie.close
+    (tie.spec
+    (λ c κs. search needs)
+    (λ c κs. search needs)
+    (λ c. search needs)
+    returns)

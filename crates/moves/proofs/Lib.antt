@@ -1,0 +1,4 @@
+pub mod Calls
+pub mod Moving
+pub mod Records
+pub mod Sheets

@@ -1,0 +1,328 @@
+// The worklist of an admission: an address that is reached is marked in the sheet and put into the queue; what a visit of a return,
+// a call or another instruction does.
+use rules::jump_target;
+use stack::two_bytes;
+ghost use mathlib.Core.Path.{_≡_};
+ghost use Prim.Native.Nat.{ℕ, _+_, _*_, _-_, _/_, _%_, _≤_, _<_};
+ghost use lib.ListN.{length, getD, set};
+ghost use Rattle.model.specs.Machine.{start};
+ghost use Rattle.model.specs.Instruction.{lengthOf};
+ghost use Rattle.model.specs.Admission.{admitMost, byteAt, targetOf, Leaves, sheetRecord, markIn};
+ghost use Rattle.model.specs.Admission.Mark.{marked};
+ghost use Rattle.worklist.specs.Worklist.{routineAt, Agrees, Forced, Marks, Obeyed, Roots, Listed, Tested, Above, Outcome, placed, Back, AllBack, Chain, Visit, Visited};
+
+// "The sheet record becomes 8 bytes: the old four", which are mark, working depth, return depth, the program byte, "the routine (two
+// bytes), two zeros".
+pub const SHEET_RECORD: usize = 8;
+
+// "The first record stands for address 0100."
+pub const START: u16 = 0x0100;
+
+const BRK: u8 = 0x00;
+
+const JCI: u8 = 0x20;
+
+const JMI: u8 = 0x40;
+
+// What `routines` has for the routine at a place of the program: the number, from 1, of the place in the queue with the routine's last
+// call, or 0, if there is none; once a return of it was visited, RETURNED and the working depth there.
+const RETURNED: u16 = 4097;
+
+// How the worklist goes on: a rule fails where every assignment has a mark, so that there is none; or with this many
+// addresses in the queue.
+pub enum Next {
+    Refuted,
+    Queued(usize),
+}
+
+// A function of its own, since a cast of an element of an array would ask for a proof that it fits.
+pub fn wide(x: u16) -> usize
+    ensures { λ r. ⌜ r ≡ x ⌝ }
+{
+    x as usize
+}
+
+// ---- the sheet
+
+// The record of place i becomes marked with these depths and this routine.
+pub fn mark(sheet: &mut [u8], i: usize, work: u8, ret: u8, routine: u16)
+    requires { ⌜ sheetRecord * i + 5 < length (now sheet) ⌝ }
+    ensures { λ _. ⌜ now (sheet .exit) ≡ set (set (set (set (set (now (sheet .entry)) (sheetRecord * i) 1) (sheetRecord * i + 1) work) (sheetRecord * i + 2) ret)
+        (sheetRecord * i + 4) (routine / 256)) (sheetRecord * i + 5) (routine % 256) ⌝ }
+{
+    let place = SHEET_RECORD * i;
+    sheet[place] = 1;
+    sheet[place + 1] = work;
+    sheet[place + 2] = ret;
+    sheet[place + 4] = (routine / 256) as u8;
+    sheet[place + 5] = (routine % 256) as u8;
+}
+
+// The routine in the record of place i.
+pub fn routine_of(sheet: &[u8], i: usize) -> u16
+    requires { ⌜ sheetRecord * i + 5 < length (now sheet) ⌝ }
+    ensures { λ r. ⌜ r ≡ routineAt (now (sheet .entry)) i ⌝ }
+{
+    let place = SHEET_RECORD * i;
+    two_bytes(sheet[place + 4], sheet[place + 5])
+}
+
+// The floor of a routine: the return depth in the record of its own address.
+pub fn floor_of(sheet: &[u8], routine: u16) -> u8
+    requires { ⌜ (start ≤ routine) × (sheetRecord * (routine - start) + 2 < length (now sheet)) ⌝ }
+    ensures { λ r. ⌜ r ≡ getD (now (sheet .entry)) (sheetRecord * (routine - start) + 2) 0 ⌝ }
+{
+    sheet[SHEET_RECORD * wide(routine - START) + 2]
+}
+
+// The record of place i has these depths and this routine.
+fn agrees(sheet: &[u8], i: usize, work: u8, ret: u8, routine: u16) -> bool
+    requires { ⌜ sheetRecord * i + 5 < length (now sheet) ⌝ }
+    ensures { λ r. ⌜ Agrees (now (sheet .entry)) i work ret routine r ⌝ }
+{
+    let place = SHEET_RECORD * i;
+    if sheet[place + 1] != work {
+        return false;
+    }
+    if sheet[place + 2] != ret {
+        return false;
+    }
+    if sheet[place + 4] != (routine / 256) as u8 {
+        return false;
+    }
+    if sheet[place + 5] != (routine % 256) as u8 {
+        return false;
+    }
+    true
+}
+
+// The address is one where the program goes on, with these depths and in this routine: it is marked and put into the queue,
+// unless it is marked.
+fn reach(
+    program: &[u8],
+    sheet: &mut [u8],
+    queue: &mut [u16; 4096],
+    tail: usize,
+    at: u16,
+    work: u8,
+    ret: u8,
+    routine: u16,
+) -> Next
+    requires { ⌜ Listed (now program) (now sheet) (now queue) tail × Forced (now program) at work ret routine × Roots (now program) (now sheet) at ret routine ⌝ }
+    ensures { λ n. ⌜ Outcome (now (program .entry)) (now (sheet .entry)) (now (queue .entry)) tail (now (sheet .exit)) (now (queue .exit))
+        (markIn (now (sheet .exit)) at ≡ marked work ret routine) n ⌝ }
+{
+    if at < START {
+        return Next::Refuted;
+    }
+    let i = (at - START) as usize;
+    if program.len() <= i {
+        return Next::Refuted;
+    }
+    if sheet[SHEET_RECORD * i] == 0 {
+        mark(sheet, i, work, ret, routine);
+        queue[tail] = at - START;
+        return Next::Queued(tail + 1);
+    }
+    if agrees(sheet, i, work, ret, routine) {
+        return Next::Queued(tail);
+    }
+    Next::Refuted
+}
+
+// "The address after the call" at place i: its routine has a return with this working depth.
+fn come_back(
+    program: &[u8],
+    sheet: &mut [u8],
+    queue: &mut [u16; 4096],
+    tail: usize,
+    i: usize,
+    work: u8,
+) -> Next
+    requires { ⌜ Listed (now program) (now sheet) (now queue) tail × Marks (now sheet) (start + i) × (byteAt (now program) (start + i) ≡ 0x60)
+        × Leaves (now program) (markIn (now sheet)) (targetOf (now program) (start + i)) work ⌝ }
+    ensures { λ n. ⌜ Outcome (now (program .entry)) (now (sheet .entry)) (now (queue .entry)) tail (now (sheet .exit)) (now (queue .exit))
+        (Back (now (program .entry)) (now (sheet .exit)) (start + i) work) n ⌝ }
+{
+    let ret = sheet[SHEET_RECORD * i + 2];
+    let routine = routine_of(sheet, i);
+    reach(
+        program,
+        sheet,
+        queue,
+        tail,
+        START + (i + 3) as u16,
+        work,
+        ret,
+        routine,
+    )
+}
+
+// The first return of the routine at place `entry` of the program: each call of it that was visited goes on, the last one first.
+// `before` has, for a place of the queue with a call, the number of the place with the call before it, as `routines` has the last.
+fn release(
+    program: &[u8],
+    sheet: &mut [u8],
+    queue: &mut [u16; 4096],
+    tail: usize,
+    routines: &[u16; 4096],
+    before: &[u16; 4096],
+    entry: usize,
+    work: u8,
+) -> Next
+    requires { ⌜ Listed (now program) (now sheet) (now queue) tail × Chain (now program) (now queue) tail (now before) (start + entry) (getD (now routines) entry 0)
+        × Leaves (now program) (markIn (now sheet)) (start + entry) work × (entry < admitMost) ⌝ }
+    ensures { λ n. ⌜ Outcome (now (program .entry)) (now (sheet .entry)) (now (queue .entry)) tail (now (sheet .exit)) (now (queue .exit))
+        (AllBack (now (program .entry)) (now (sheet .exit)) (now (queue .exit)) (start + entry) (getD (now (routines .entry)) entry 0) work) n ⌝ }
+{
+    let mut j = wide(routines[entry]);
+    let mut most = tail;
+    while 0 < j {
+        let k = j - 1;
+        let i = wide(queue[k]);
+        let Next::Queued(more) = come_back(program, sheet, queue, most, i, work) else {
+            return Next::Refuted;
+        };
+        most = more;
+        j = wide(before[k]);
+    }
+    Next::Queued(most)
+}
+
+// 6C at place `head` of the queue.
+pub fn leave(
+    program: &[u8],
+    sheet: &mut [u8],
+    queue: &mut [u16; 4096],
+    tail: usize,
+    head: usize,
+    routines: &mut [u16; 4096],
+    before: &[u16; 4096],
+) -> Next
+    requires { ⌜ Visit (now program) (now sheet) (now queue) tail head (now routines) (now before)
+        × (getD (now program) (getD (now queue) head 0) 0 ≡ 0x6C)
+        × ((work : ℕ) × (ret : ℕ) × Tested (now program) (now sheet) (getD (now queue) head 0) work ret) ⌝ }
+    ensures { λ n. ⌜ Outcome (now (program .entry)) (now (sheet .entry)) (now (queue .entry)) tail (now (sheet .exit)) (now (queue .exit))
+        (Visited (now (program .entry)) (now (sheet .exit)) (now (queue .exit)) head (placed (now (queue .entry)) head) (now (routines .exit)) (now (before .entry))) n ⌝ }
+{
+    let i = wide(queue[head]);
+    let routine = routine_of(sheet, i);
+    // "never in routine 0100"
+    if routine == START {
+        return Next::Refuted;
+    }
+    // "it stands only at the floor"
+    if floor_of(sheet, routine) != sheet[SHEET_RECORD * i + 2] {
+        return Next::Refuted;
+    }
+    // "and leaves with one working depth for the whole routine"
+    let entry = wide(routine - START);
+    let work = sheet[SHEET_RECORD * i + 1];
+    let depth = RETURNED + work as u16;
+    let known = routines[entry];
+    if known == depth {
+        return Next::Queued(tail);
+    }
+    if RETURNED <= known {
+        return Next::Refuted;
+    }
+    let next = release(program, sheet, queue, tail, routines, before, entry, work);
+    routines[entry] = depth;
+    next
+}
+
+// JSI at place i, which is place `head` of the queue, with the depths after it.
+pub fn call(
+    program: &[u8],
+    sheet: &mut [u8],
+    queue: &mut [u16; 4096],
+    tail: usize,
+    head: usize,
+    routines: &mut [u16; 4096],
+    before: &mut [u16; 4096],
+    i: usize,
+    work: u8,
+    ret: u8,
+) -> Next
+    requires { ⌜ Visit (now program) (now sheet) (now queue) tail head (now routines) (now before) × (i ≡ getD (now queue) head 0)
+        × Tested (now program) (now sheet) i work ret × Above (now program) (now sheet) i × (getD (now program) i 0 ≡ 0x60) ⌝ }
+    ensures { λ n. ⌜ Outcome (now (program .entry)) (now (sheet .entry)) (now (queue .entry)) tail (now (sheet .exit)) (now (queue .exit))
+        (Visited (now (program .entry)) (now (sheet .exit)) (now (queue .exit)) head (placed (now (queue .entry)) head) (now (routines .exit)) (now (before .exit))) n ⌝ }
+{
+    let target = jump_target(program, i);
+    let next = reach(program, sheet, queue, tail, target, work, ret, target);
+    let Next::Queued(more) = next else {
+        return Next::Refuted;
+    };
+    let entry = wide(target - START);
+    let known = routines[entry];
+    if known < RETURNED {
+        before[head] = known;
+        routines[entry] = (head + 1) as u16;
+        return Next::Queued(more);
+    }
+    come_back(program, sheet, queue, more, i, (known - RETURNED) as u8)
+}
+
+// "each address where it may go on (after it; for JMI its target; for JCI both)" from place i, with these depths and in this
+// routine. "BRK goes nowhere."
+pub fn follow(
+    program: &[u8],
+    sheet: &mut [u8],
+    queue: &mut [u16; 4096],
+    tail: usize,
+    i: usize,
+    after: usize,
+    work: u8,
+    ret: u8,
+    routine: u16,
+) -> Next
+    requires { ⌜ Listed (now program) (now sheet) (now queue) tail × Marks (now sheet) (start + i) × Tested (now program) (now sheet) i work ret
+        × Above (now program) (now sheet) i × (after ≡ i + lengthOf (getD (now program) i 0)) × (routine ≡ routineAt (now sheet) i)
+        × (getD (now program) i 0 ≡ 0x60 → ⊥) × (getD (now program) i 0 ≡ 0x6C → ⊥) ⌝ }
+    ensures { λ n. ⌜ Outcome (now (program .entry)) (now (sheet .entry)) (now (queue .entry)) tail (now (sheet .exit)) (now (queue .exit))
+        (Obeyed (now (program .entry)) (now (sheet .exit)) (start + i)) n ⌝ }
+{
+    let byte = program[i];
+    if byte == BRK {
+        return Next::Queued(tail);
+    }
+    if byte == JMI {
+        return reach(
+            program,
+            sheet,
+            queue,
+            tail,
+            jump_target(program, i),
+            work,
+            ret,
+            routine,
+        );
+    }
+    let next = reach(
+        program,
+        sheet,
+        queue,
+        tail,
+        START + after as u16,
+        work,
+        ret,
+        routine,
+    );
+    if byte != JCI {
+        return next;
+    }
+    let Next::Queued(more) = next else {
+        return Next::Refuted;
+    };
+    reach(
+        program,
+        sheet,
+        queue,
+        more,
+        jump_target(program, i),
+        work,
+        ret,
+        routine,
+    )
+}
