@@ -472,6 +472,8 @@ moveCases =
     -- no record at all
     ∷ (widenCall [] (5 ∷ []), written [] (5 ∷ []))
     ∷ (narrowCall [] [], written [] [])
+    -- "nothing written"
+    ∷ (widenCall (1 ∷ 255 ∷ 255 ∷ 9 ∷ []) (5 ∷ 6 ∷ 7 ∷ []), record { number = 13; length = 0; output = 5 ∷ 6 ∷ 7 ∷ [] })
     -- "13 for a short output"
     ∷ (widenCall oldPair (zeros 15), unwritten 13 (zeros 15))
     ∷ (narrowCall newPair (zeros 7), unwritten 13 (zeros 7))
