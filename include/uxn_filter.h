@@ -16,9 +16,9 @@
  * Every call ends: a run takes at most `budget` instructions. What each call replies and leaves in every lent byte is proved
  * for every input (crates/capi/src/lib.rt has the contracts, crates/model/specs the definitions that they cite).
  *
- * The library has eight calls: five on a machine, the admission of a program, and two moves of stored sheets. At the end of this
- * file stands a struct, uxn_host, that holds record and buffers of a machine, with functions that make the calls on it. A host that
- * does not use it pays nothing for it.
+ * The library has nine calls: five on a machine, the admission of a program, why a program is refused, and two moves of stored
+ * sheets. At the end of this file stands a struct, uxn_host, that holds record and buffers of a machine, with functions that make
+ * the calls on it. A host that does not use it pays nothing for it.
  */
 #ifndef UXN_FILTER_H
 #define UXN_FILTER_H
@@ -29,8 +29,8 @@
 /* The version of this interface. Every change of a call, a struct or a constant of this file raises it. Version 1 had no such
    name: there the device of uxn_event was a uint8_t, so that C cut 259 down to 3, and there was no uxn_host. In version 2 a sheet
    had four bytes for each program byte; since version 3 it has eight, and uxn_widen_sheet and uxn_narrow_sheet move sheets from
-   one form to the other. */
-#define UXN_FILTER_VERSION 3
+   one form to the other. Since version 4 uxn_explain says why a program is refused. */
+#define UXN_FILTER_VERSION 4
 
 #ifdef __cplusplus
 extern "C" {
@@ -51,7 +51,7 @@ typedef struct {
 #define UXN_SPENT 4   /* the budget is used up and the last instruction was not BRK */
 #define UXN_IGNORED 5 /* uxn_event: the device's vector is 0; nothing changed */
 
-/* uxn_reply.number, where the answer is UXN_REFUSED, and what uxn_admit answers: the smallest that applies to the call.
+/* uxn_reply.number, where the answer is UXN_REFUSED, uxn_why.number and what uxn_admit answers: the smallest that applies to the call.
    uxn_written.number: the first that applies, in the order that the call names */
 #define UXN_MEMORY_LENGTH 1         /* memory is not 65,536 bytes */
 #define UXN_DEVICE_PAGE_LENGTH 2    /* the device page is not 256 bytes */
@@ -61,9 +61,9 @@ typedef struct {
 #define UXN_DEVICE_NUMBER 6         /* uxn_event: the device is above 15 */
 #define UXN_RECORD_LENGTH 7         /* uxn_frame: the record is not 64 bytes */
 #define UXN_RECORD_FORM 8           /* uxn_frame: the record's length byte is above 62, or a byte past its data is not 0 */
-#define UXN_ADMIT_LENGTH 9          /* uxn_admit: the program is above 4,096 bytes */
+#define UXN_ADMIT_LENGTH 9          /* uxn_admit, uxn_explain: the program is above 4,096 bytes */
 #define UXN_SHEET_LENGTH 10         /* uxn_admit: the sheet is not eight times the program's length */
-#define UXN_NO_ASSIGNMENT 11        /* uxn_admit: no depths and routines obey the admission rules */
+#define UXN_NO_ASSIGNMENT 11        /* uxn_admit, uxn_explain: no depths and routines obey the admission rules */
 #define UXN_OUTPUT_LENGTH 13        /* uxn_widen_sheet, uxn_narrow_sheet: the output is too short */
 #define UXN_SHEET_FORM 18           /* uxn_widen_sheet, uxn_narrow_sheet: the sheet is not of the form that is moved */
 #define UXN_SHEET_ROUTINE 19        /* uxn_narrow_sheet: a marked record has another routine than 0x0100 */
@@ -108,6 +108,43 @@ uxn_reply uxn_frame(uxn_machine machine, uint8_t *memory, size_t memory_length, 
    5, 9 and 10 leave the sheet as found, 11 leaves it all zero. The program stays as it is; the two must not overlap, and no pointer
    may be null. */
 uint8_t uxn_admit(const uint8_t *program, size_t program_length, uint8_t *sheet, size_t sheet_length);
+
+/* A place: an address with the depths and the routine that it has on a way from 0x0100. Each step of the way is one of an
+   instruction that lies in the program, is allowed, finds on each stack the bytes that it takes, and leaves no more than 255. */
+typedef struct {
+    uint16_t at;      /* the address */
+    uint8_t work;     /* the depth of the working stack there */
+    uint8_t ret;      /* the depth of the return stack there */
+    uint16_t routine; /* 0x0100, or the target of the JSI that led there */
+} uxn_place;
+
+/* uxn_why.rule: what is found at the instruction `here` */
+#define UXN_RULE_CUT 1               /* it has `count` bytes, and the program ends before the last of them */
+#define UXN_RULE_FORBIDDEN 2         /* it is not allowed: JMP, JCN, JSR, STR or STA in any mode, but for the byte 6C */
+#define UXN_RULE_FEW_WORKING 3       /* it takes `count` bytes of the working stack, which holds fewer */
+#define UXN_RULE_FEW_RETURN 4        /* it takes `count` bytes of the return stack, which holds fewer */
+#define UXN_RULE_BELOW_FLOOR 5       /* it takes `count` bytes of the return stack, and fewer lie above the floor, `other.ret` */
+#define UXN_RULE_MANY_WORKING 6      /* after it the working stack would hold `count` bytes, more than 255 */
+#define UXN_RULE_MANY_RETURN 7       /* after it the return stack would hold `count` bytes, more than 255 */
+#define UXN_RULE_OUTSIDE 8           /* it goes on to `next`, which is outside the program */
+#define UXN_RULE_WAYS_DIFFER 9       /* it goes on to `next`, and on another way the same address is `other` */
+#define UXN_RULE_RETURN_IN_0100 10   /* it is a return, byte 6C, in the routine 0x0100 */
+#define UXN_RULE_RETURN_OFF_FLOOR 11 /* it is a return, and its return depth is not the floor, `other.ret` */
+#define UXN_RULE_RETURNS_DIFFER 12   /* it is a return, and `other` is one of the same routine with another working depth */
+
+/* Why a program is refused. What a rule does not have is 0. */
+typedef struct {
+    uint8_t number;  /* as uxn_admit answers with a sheet of the right length: 0, 5, 9 or 11; unless 11, all else is 0 */
+    uint8_t rule;    /* the rule that fails */
+    uint16_t count;  /* the number that the rule speaks of */
+    uxn_place here;  /* the instruction where it fails, with the depths before it */
+    uxn_place next;  /* where it goes on: UXN_RULE_OUTSIDE, UXN_RULE_WAYS_DIFFER */
+    uxn_place other; /* the same address on another way; the routine's own address, whose return depth is the floor; another return */
+} uxn_why;
+
+/* Why a program is refused by uxn_admit. Where several rules fail, or one at several places, one of them is told; which one is
+   not promised. It needs no sheet. The program stays as it is, and its pointer may not be null. */
+uxn_why uxn_explain(const uint8_t *program, size_t program_length);
 
 /* What a call that writes to a lent output replies. */
 typedef struct {

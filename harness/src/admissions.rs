@@ -1,8 +1,11 @@
 //! The admission of the proved library, the second admission and the one in safe Rust side by side:
-//! every call is made on all three, and the answer and every byte of the sheet are compared.
+//! every call is made on all three, and the answer and every byte of the sheet are compared. Of each
+//! program the library is also asked why it is refused: the number is compared, and the reason has to
+//! be true.
 
-use crate::calls::{ADMITTED, SHEET_RECORD};
+use crate::calls::{Why, ADMITTED, SHEET_RECORD};
 use crate::pair::{say, Guarded, SHOWN};
+use crate::reasons::{Search, RULES};
 use crate::{library, rust_admission, second_admission};
 
 /// Of a program with which they differ, so many bytes are shown.
@@ -15,6 +18,10 @@ pub struct Admissions {
     program_bytes: u64,
     /// The sheet as the last call left it.
     sheet: Vec<u8>,
+    /// Why the last program is refused.
+    why: Why,
+    /// The reasons that were told, by their rule.
+    told: [u64; RULES.len()],
 }
 
 impl Admissions {
@@ -25,6 +32,8 @@ impl Admissions {
             admitted: 0,
             program_bytes: 0,
             sheet: Vec::new(),
+            why: Why::default(),
+            told: [0; RULES.len()],
         }
     }
 
@@ -35,6 +44,16 @@ impl Admissions {
     /// The sheet as the last call left it.
     pub fn sheet(&self) -> &[u8] {
         &self.sheet
+    }
+
+    /// Why the last program is refused.
+    pub fn why(&self) -> Why {
+        self.why
+    }
+
+    /// The reasons that were told, by their rule.
+    pub fn told(&self) -> [(&'static str, u64); RULES.len()] {
+        std::array::from_fn(|place| (RULES[place], self.told[place]))
     }
 
     /// Admission into a sheet of the right length.
@@ -64,6 +83,7 @@ impl Admissions {
         let mut sheet = Guarded::new(sheet_length);
         sheet.bytes_mut().copy_from_slice(&found);
         let mine = library::admit(&given.bytes()[..program.len()], sheet.bytes_mut());
+        let why = library::explain(&given.bytes()[..program.len()]);
 
         let mut second_sheet = found.clone();
         let second = second_admission::admit(program, &mut second_sheet);
@@ -93,6 +113,18 @@ impl Admissions {
             _ if left == found => {}
             number => lines.push(format!("  {number} leaves another sheet than was found")),
         }
+        // The reason is the same whatever sheet is lent.
+        let number = match second {
+            10 => answer(program),
+            number => number,
+        };
+        if why.number != number {
+            let told = why.number;
+            lines.push(format!("  explained with {told}, second {number}"));
+        }
+        if let Some(wrong) = Search::new(program).wrong(&why) {
+            lines.push(format!("  {wrong}: {why:04x?}"));
+        }
         if !lines.is_empty() {
             panic!(
                 "seed {}, call {}: admission of {} bytes into a sheet of {sheet_length}:\n  {}\n{}",
@@ -104,6 +136,10 @@ impl Admissions {
             );
         }
         self.admitted += u64::from(mine == ADMITTED);
+        if let Some(told) = usize::from(why.rule).checked_sub(1) {
+            self.told[told] += 1;
+        }
+        self.why = why;
         self.sheet.clear();
         self.sheet.extend_from_slice(left);
         mine
@@ -114,7 +150,7 @@ impl Admissions {
         100.0 * self.admitted as f64 / self.calls as f64
     }
 
-    /// Says what was compared, also where the test runner holds back what passing tests print.
+    /// Says what was compared and which reasons were told, also where the test runner holds back what passing tests print.
     pub fn say_total(&self, test: &str) {
         say(&format!(
             "{test}: seed {}, {} admissions of {} bytes compared, {} admitted ({:.0} %)",
@@ -124,7 +160,15 @@ impl Admissions {
             self.admitted,
             self.percent_admitted()
         ));
+        let told = self.told().map(|(name, number)| format!("{number} {name}"));
+        say(&format!("{test}: reasons, {}", told.join(", ")));
     }
+}
+
+/// What the second admission answers with a sheet of the right length.
+fn answer(program: &[u8]) -> u8 {
+    let mut sheet = vec![0; SHEET_RECORD * program.len()];
+    second_admission::admit(program, &mut sheet)
 }
 
 /// Bytes none of which is 0, others with each call.

@@ -28,6 +28,9 @@ const EXCEPTIONS: [(&str, u8); 8] = [
     ("LIT2r", 0xe0),
 ];
 
+/// In the order in which a name has them.
+const MODES: [(char, u8); 3] = [('2', 0x20), ('k', 0x80), ('r', 0x40)];
+
 /// The program's bytes, from address 0100. Panics on a word that it does not know.
 pub fn assemble(text: &str) -> Vec<u8> {
     let mut code = Vec::new();
@@ -62,6 +65,20 @@ pub fn assemble(text: &str) -> Vec<u8> {
     code
 }
 
+/// The name of an instruction byte, with its modes.
+pub fn name(byte: u8) -> String {
+    if let Some((name, _)) = EXCEPTIONS.iter().find(|(_, known)| *known == byte) {
+        return (*name).to_owned();
+    }
+    let mut name = OPERATIONS[usize::from(byte & 0x1f) - 1].to_owned();
+    for (mode, bit) in MODES {
+        if byte & bit != 0 {
+            name.push(mode);
+        }
+    }
+    name
+}
+
 fn address_of(place: usize) -> u16 {
     PROGRAM_START + place as u16
 }
@@ -72,7 +89,7 @@ fn instruction(word: &str) -> Option<u8> {
     }
     let (name, mut modes) = word.split_at_checked(3)?;
     let mut byte = 1 + OPERATIONS.iter().position(|known| *known == name)? as u8;
-    for (mode, bit) in [('2', 0x20), ('k', 0x80), ('r', 0x40)] {
+    for (mode, bit) in MODES {
         if let Some(rest) = modes.strip_prefix(mode) {
             byte |= bit;
             modes = rest;
@@ -97,7 +114,16 @@ fn hexadecimal(word: &str) -> Vec<u8> {
 
 #[cfg(test)]
 mod tests {
-    use super::assemble;
+    use super::{assemble, name};
+
+    #[test]
+    fn every_byte_has_a_name() {
+        for byte in 0..=255 {
+            assert_eq!(assemble(&name(byte)), [byte]);
+        }
+        let named = [0x00, 0x02, 0x6c, 0x98, 0xe0, 0xef].map(name);
+        assert_eq!(named, ["BRK", "POP", "JMP2r", "ADDk", "LIT2r", "STH2kr"]);
+    }
 
     #[test]
     fn words_are_assembled() {

@@ -69,8 +69,32 @@ pub struct Written {
     pub number: u8,
 }
 
+/// An address with the depths and the routine that it has on a way from 0100.
+#[repr(C)]
+#[derive(Clone, Copy, PartialEq, Eq, Debug, Default)]
+pub struct Place {
+    pub at: u16,
+    pub work: u8,
+    pub ret: u8,
+    pub routine: u16,
+}
+
+/// Why a program is refused: the number of the refusal or 0; with 11 the rule that fails, the number
+/// that it speaks of, the place of the instruction, where it goes on, and another place.
+#[repr(C)]
+#[derive(Clone, Copy, PartialEq, Eq, Debug, Default)]
+pub struct Why {
+    pub number: u8,
+    pub rule: u8,
+    pub count: u16,
+    pub here: Place,
+    pub next: Place,
+    pub other: Place,
+}
+
 const _: () = assert!(size_of::<Machine>() == 4 && size_of::<Reply>() == 12);
 const _: () = assert!(size_of::<Written>() == 16);
+const _: () = assert!(size_of::<Place>() == 6 && size_of::<Why>() == 22);
 
 /// A refusal: its number, 0 steps, verdict 0 and the record as it was given.
 pub fn refused(machine: Machine, number: u8) -> Reply {

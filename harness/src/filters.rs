@@ -354,8 +354,8 @@ fn is_exception(byte: u8) -> bool {
     byte & 0x1f == 0
 }
 
-/// The depths after an instruction other than a jump, where the rules let it stand.
-pub(crate) fn after(byte: u8, before: Depths) -> Option<Depths> {
+/// The depths after an instruction, of a call at its target, where the rules let it stand.
+pub fn after(byte: u8, before: Depths) -> Option<Depths> {
     let Sizes { taken, pushed, .. } = sizes(byte);
     let keep = byte & 0x80 != 0;
     let one = |before: u32, taken: u32, pushed: u32| {

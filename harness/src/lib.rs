@@ -2,9 +2,10 @@
 //!
 //! - `calls`, `library`: the C interface, and the proved library behind it;
 //! - `second`: the second, independent machine; `pair`: both side by side;
-//! - `second_admission`: the second admission; `admissions`: the admissions side by side;
+//! - `second_admission`: the second admission; `reasons`: whether a reason is true of a program;
+//!   `admissions`: the admissions side by side, and the reasons;
 //! - `watch`: demand 3, watched step by step;
-//! - `linked`: the linked programs; `compiled`: C programs over the library; `disassembly`: its machine
+//! - `linked`: the linked programs; `sentences`: the line of `explain`; `compiled`: C programs over the library; `disassembly`: its machine
 //!   code;
 //! - `listing`: programs written out to be read; `page`: blocks and tables of a page of `docs`;
 //! - `soak`: rounds that go on for minutes;
@@ -28,10 +29,12 @@ pub mod pair;
 pub mod peers;
 pub mod programs;
 pub mod random;
+pub mod reasons;
 pub mod rust_admission;
 pub mod rust_core;
 pub mod second;
 pub mod second_admission;
+pub mod sentences;
 pub mod settings;
 pub mod soak;
 pub mod timing;

@@ -1,7 +1,7 @@
 //! The calls of the proved library, `libcapi.a`.
 
 use crate::c_call;
-use crate::calls::Written;
+use crate::calls::{Why, Written};
 
 c_call!(load = "uxn_load", slice program);
 c_call!(step = "uxn_step");
@@ -28,6 +28,15 @@ pub fn admit(program: &[u8], sheet: &mut [u8]) -> u8 {
             sheet.len(),
         )
     }
+}
+
+/// Why a program is refused.
+pub fn explain(program: &[u8]) -> Why {
+    extern "C" {
+        fn uxn_explain(program: *const u8, program_length: usize) -> Why;
+    }
+    // The pointer is that of a live slice with its length.
+    unsafe { uxn_explain(program.as_ptr(), program.len()) }
 }
 
 type Move = unsafe extern "C" fn(*const u8, usize, *mut u8, usize) -> Written;

@@ -1,6 +1,6 @@
-//! The linked programs `frames` and `sheet`: where they stand, how they are run, and what they
-//! should write on standard output and say on standard error, from the second machine and the second
-//! admission. They stand in `target/bin` below the repository's root, or in the folder that
+//! The linked programs `frames`, `sheet` and `explain`: where they stand, how they are run, and what
+//! they should write on standard output and say on standard error, from the second machine and the
+//! second admission, and for `explain` from the call of the library. They stand in `target/bin` below the repository's root, or in the folder that
 //! UXN_FILTER_BIN names.
 
 use std::ffi::OsStr;
@@ -18,7 +18,7 @@ use crate::calls::{ADMITTED, MEMORY, PAGE, PROGRAM_LIMIT, RECORD, SHEET_RECORD};
 use crate::compiled::repository;
 use crate::random::Random;
 use crate::second::{self, Answer, Parts, Record};
-use crate::second_admission;
+use crate::{library, second_admission, sentences};
 
 /// Steps that `frames` gives each frame.
 pub const BUDGET: u32 = 10_000;
@@ -82,6 +82,10 @@ pub fn frames() -> Command {
 
 pub fn sheet() -> Command {
     Command::new(program("sheet"))
+}
+
+pub fn explain() -> Command {
+    Command::new(program("explain"))
 }
 
 /// The program, started by a shell that has done something first.
@@ -335,6 +339,11 @@ pub fn expected_sheet(program: &[u8]) -> Written {
         ADMITTED => Written::only_out(sheet),
         number => Written::only_said(format!("refused {number}\n")),
     }
+}
+
+/// The line of `explain`, from the call.
+pub fn expected_explained(program: &[u8]) -> Written {
+    Written::only_out(sentences::line(program, &library::explain(program)))
 }
 
 /// Good records of every length, and records of wrong form.

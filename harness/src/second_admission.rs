@@ -146,7 +146,7 @@ fn by_operation(operation: u8, n: u32) -> (u32, u32, u32) {
 }
 
 /// JMP, JCN, JSR, STR, STA in any mode, but for the return.
-fn forbidden(byte: u8) -> bool {
+pub fn forbidden(byte: u8) -> bool {
     byte != RETURN && matches!(byte & 0x1f, 0x0c | 0x0d | 0x0e | 0x13 | 0x15)
 }
 

@@ -6,7 +6,7 @@
 //!   together, the one that is called first;
 //! - `verdicts`: short programs, each with its line for a frame of zeros, and its instructions;
 //! - `sheet`: a sheet, a record on each line;
-//! - `refused NAME`: listings under `refused NUMBER`, and one under `admitted`;
+//! - `refused NAME`: listings under the line that `explain` writes, and one under `admitted`;
 //! - `console`: commands after `$`, and what they write and say.
 
 use std::collections::BTreeSet;
@@ -18,28 +18,32 @@ use uxn_filter_harness::assembler::assemble;
 use uxn_filter_harness::calls::{
     ADMITTED, ADMIT_LIMIT, LOADED, PROGRAM_LIMIT, PROGRAM_START, RECORD, REFUSED, SHEET_RECORD,
 };
-use uxn_filter_harness::filters::forbidden_bytes;
+use uxn_filter_harness::filters::{after, forbidden_bytes};
+use uxn_filter_harness::library;
 use uxn_filter_harness::linked::{
-    self, assert_writes, expected_lines, file, lines_of, program, sheet, sheet_of, Written, BUDGET,
+    self, assert_writes, expected_lines, explain, file, lines_of, program, sheet, sheet_of,
+    Written, BUDGET,
 };
 use uxn_filter_harness::listing::{self, hexadecimal, listing, Listed};
 use uxn_filter_harness::opcodes::{BRK, JMP2R};
 use uxn_filter_harness::page::{self, cells, Block};
 use uxn_filter_harness::pair::{say, Pair, Part};
+use uxn_filter_harness::reasons::RULES;
 use uxn_filter_harness::second_admission::{sizes, Depths, Sizes};
 use uxn_filter_harness::watch::Watch;
 
 const KINDS: [&str; 7] = [
     "filter", "bytes", "records", "verdicts", "sheet", "refused", "console",
 ];
-/// Examples and reasons of refusals that the page has to have.
+/// Examples and refused programs that the page has to have.
 const EXAMPLES: [&str; 9] = [
     "all", "node", "value", "table", "check", "third", "peak", "range", "digits",
 ];
-const REASONS: [&str; 30] = [
+const REFUSALS: [&str; 31] = [
     "empty",
     "long",
     "few",
+    "other",
     "keep",
     "deep",
     "ways",
@@ -69,8 +73,10 @@ const REASONS: [&str; 30] = [
     "levels",
 ];
 const NOT_ADMITTED: u8 = 11;
-/// Stands before the comment of an instruction that breaks a rule.
+/// Stands at the instruction that the line of a refused program names.
 const FAULT: &str = "<-";
+/// Where the line tells of another way, this comes after it.
+const OTHER_WAY: &str = "the other way ";
 
 fn page() -> String {
     page::read("FILTERS.md")
@@ -163,11 +169,13 @@ fn assert_admitted_with(name: &str, code: &[u8], sheet: &[u8]) {
     assert_eq!(sheet_of(code), sheet, "{name}: what `sheet` writes");
 }
 
-/// The head of a refused program is what `sheet` says.
+/// The head of a refused program is the line of `explain`; `sheet` says its number alone.
 fn assert_refused(name: &str, code: &[u8], head: &str, number: u8) {
     assert_eq!(Admissions::new(0).admit(code), number, "{name}");
-    let expected = Written::only_said(format!("{head}\n"));
-    assert_writes(&mut sheet(), code, &expected);
+    let line = Written::only_out(format!("{head}\n"));
+    assert_writes(&mut explain(), code, &line);
+    let said = Written::only_said(format!("refused {number}\n"));
+    assert_writes(&mut sheet(), code, &said);
 }
 
 /// The line that `frames` writes for each record, and the second machine; demand 3 is watched.
@@ -323,85 +331,120 @@ fn parts(text: &str) -> Vec<(&str, Vec<Listed>)> {
         .collect()
 }
 
-/// With BRK in place of the instruction that breaks a rule the program is admitted, with the depths
-/// listed.
-fn assert_fault(name: &str, lines: &[Listed]) {
+/// The refused programs of a block.
+fn wrong(text: &str) -> Vec<(&str, Vec<Listed>)> {
+    let mut parts = parts(text);
+    parts.retain(|(head, _)| *head != "admitted");
+    parts
+}
+
+/// The line of a program that breaks a rule: the address that it names, and what it says of the
+/// instruction there.
+fn told(line: &str) -> Option<(u16, &str)> {
+    let (address, sentence) = line.strip_prefix("refused 11 at ")?.split_once(": ")?;
+    let address = u16::from_str_radix(address, 16).expect("an address");
+    Some((address, sentence))
+}
+
+/// The instruction that the line names is the one with the mark. With BRK in its place the program is
+/// admitted, with the depths listed.
+fn assert_fault(name: &str, head: &str, lines: &[Listed]) {
     let faults = lines
         .iter()
         .filter(|listed| listed.comment.starts_with(FAULT));
     let [fault] = faults.collect::<Vec<_>>()[..] else {
         panic!("{name}: one instruction with {FAULT}");
     };
+    let (address, sentence) = told(head).expect(head);
+    assert_eq!(address, fault.address, "{name}: {head}");
+    assert_eq!(sentence.split(' ').next(), Some(&*fault.instruction));
     assert_ne!(fault.bytes[0], BRK, "{name}");
     let (code, sheet) = program_and_sheet(lines, Some(fault.address));
     assert_admitted_with(&format!("{name} with BRK"), &code, &sheet);
+    assert_other_way(name, fault, lines);
 }
 
-/// BRK over an instruction of a program that is admitted: what is still reached is as before, and the
-/// program is still admitted. So where BRK mends one, the fault went with it.
+/// Where the line tells of another way, the listing says where that one comes from: an instruction
+/// that goes on to the same address with those depths, or the start.
+fn assert_other_way(name: &str, fault: &Listed, lines: &[Listed]) {
+    let why = library::explain(&listing::code(lines));
+    let words = fault.comment[FAULT.len()..].trim_start();
+    let from = words.strip_prefix(OTHER_WAY);
+    let differ = RULES[usize::from(why.rule) - 1] == "ways differ";
+    assert_eq!(from.is_some(), differ, "{name}: {words}");
+    let Some(from) = from else { return };
+    let (next, depths) = match from.strip_prefix("comes from ") {
+        Some(from) => {
+            let from = u16::from_str_radix(from, 16).expect("an address");
+            let line = lines.iter().find(|line| line.address == from);
+            let line = line.expect("a line of the listing");
+            let ahead = line.address + line.bytes.len() as u16;
+            let next = match &*line.instruction {
+                "JCI" | "JMI" | "JSI" => line.operand.expect("its target"),
+                _ => ahead,
+            };
+            (next, after(line.bytes[0], line.depths.unwrap()).unwrap())
+        }
+        None => {
+            assert_eq!(from, "is the start", "{name}");
+            (PROGRAM_START, Depths { working: 0, ret: 0 })
+        }
+    };
+    let told = [why.other.work, why.other.ret].map(u32::from);
+    assert_eq!(next, why.next.at, "{name}: {words}");
+    assert_eq!([depths.working, depths.ret], told, "{name}: {words}");
+}
+
+/// What a line says of an instruction, without its name and numbers, and without the routines that
+/// are named where two ways differ in them.
+fn form(sentence: &str) -> String {
+    let (_, sentence) = sentence.split_once(' ').expect("a name and words");
+    let is_number = |word: &str| {
+        word.bytes()
+            .all(|digit| b"0123456789ABCDEF".contains(&digit))
+    };
+    let words = sentence.split(' ').map(|word| {
+        let bare = word.trim_end_matches(',');
+        match bare {
+            "byte" => word.replace(bare, "bytes"),
+            _ if is_number(bare) => word.replace(bare, "N"),
+            _ => word.to_owned(),
+        }
+    });
+    let words: Vec<String> = words.collect();
+    words.join(" ").replace(" in routine N", "")
+}
+
+/// A row for each rule that `uxn_explain` has a number for, in their order. Its line is that of a
+/// program of the page, and all programs that break the rule have the same but for names and numbers.
 #[test]
-fn brk_over_an_instruction() {
-    let mut listings = Vec::new();
-    for Block { name, text, .. } in blocks("filter") {
-        listings.push((name, listing(&text)));
-    }
-    for Block { name, text, .. } in blocks("refused") {
-        let (_, mended) = parts(&text).pop().unwrap();
-        listings.push((name, mended));
-    }
-    let mut admissions = Admissions::new(0);
-    for (name, lines) in listings {
-        let (code, whole) = program_and_sheet(&lines, None);
-        for line in lines.iter().filter(|line| line.depths.is_some()) {
-            let mut cut = code.clone();
-            cut[place(line.address)] = BRK;
-            let what = format!("{name} with BRK at {:04X}", line.address);
-            assert_eq!(admissions.admit(&cut), ADMITTED, "{what}");
-            let records = admissions.sheet().chunks_exact(SHEET_RECORD);
-            for ((mine, whole), byte) in records.zip(whole.chunks_exact(SHEET_RECORD)).zip(cut) {
-                let same = [&whole[..3], &[byte], &whole[4..]].concat();
-                assert!(mine[0] == 0 || mine == same, "{what}");
+fn the_table_of_reasons() {
+    let rows = table("| line | what it means | what to change |");
+    assert_eq!(rows.len(), RULES.len());
+    assert!(page().contains("The twelve reasons are below"));
+    let mut sentences: Vec<BTreeSet<String>> = vec![BTreeSet::new(); RULES.len()];
+    for Block { text, .. } in blocks("refused") {
+        for (head, lines) in wrong(&text) {
+            if let Some((_, sentence)) = told(head) {
+                let rule = library::explain(&listing::code(&lines)).rule;
+                sentences[usize::from(rule) - 1].insert(sentence.to_owned());
             }
         }
     }
-}
-
-/// With BRK over the only return of a routine nothing after its call is reached.
-#[test]
-fn brk_over_the_only_return() {
-    let lines = listing(&block("filter", "call").expect("the block"));
-    let named = |name| lines.iter().find(|line| line.instruction == name);
-    let (call, back) = (named("JSI").unwrap(), named("JMP2r").unwrap());
-    let after = SHEET_RECORD * place(call.address + 3);
-    let mut code = listing::code(&lines);
-    let mut admissions = Admissions::new(0);
-    for (byte, mark) in [(JMP2R, 1), (BRK, 0)] {
-        code[place(back.address)] = byte;
-        assert_eq!(admissions.admit(&code), ADMITTED);
-        assert_eq!(admissions.sheet()[after], mark);
-    }
-}
-
-/// Where two calls or two returns of a routine do not agree, BRK over either of them will do.
-#[test]
-fn brk_over_one_of_two() {
-    for (name, instruction) in [("calls", "JSI"), ("returns", "JMP2r")] {
-        let text = block("refused", name).expect(name);
-        let mut wrong = parts(&text);
-        wrong.retain(|(head, _)| *head != "admitted");
-        for (_, lines) in wrong {
-            let reached = lines.iter().filter(|line| line.depths.is_some());
-            let two: Vec<&Listed> = reached
-                .filter(|line| line.instruction == instruction)
-                .collect();
-            assert_eq!(two.len(), 2, "{name}");
-            for line in two {
-                let mut code = listing::code(&lines);
-                code[place(line.address)] = BRK;
-                assert_eq!(Admissions::new(0).admit(&code), ADMITTED, "{name}");
-            }
+    let mut forms = BTreeSet::new();
+    for ((row, sentences), rule) in rows.iter().zip(sentences).zip(RULES) {
+        let said = row[0]
+            .strip_prefix('`')
+            .and_then(|row| row.strip_suffix('`'));
+        let said = said.expect("a line between marks");
+        assert!(sentences.contains(said), "{rule}: no program has {said}");
+        for sentence in sentences {
+            assert_eq!(form(&sentence), form(said), "{rule}");
         }
+        assert!(row[1].starts_with("rule ") && !row[2].is_empty(), "{rule}");
+        forms.insert(form(said));
     }
+    assert_eq!(forms.len(), RULES.len(), "{forms:?}");
 }
 
 /// So many levels of calls have room on the return stack, and no more.
@@ -422,8 +465,8 @@ fn levels_of_calls() {
 }
 
 #[test]
-fn every_reason_is_there() {
-    for name in REASONS {
+fn every_refusal_is_there() {
+    for name in REFUSALS {
         assert!(block("refused", name).is_some(), "no block: refused {name}");
     }
 }
@@ -447,12 +490,12 @@ fn refused_programs_and_the_same_mended() {
         }
         assert!(!wrong.is_empty(), "{name}: nothing is refused");
         for (head, lines) in wrong {
-            let number = head.strip_prefix("refused ").expect(head);
+            let number = head.split(' ').nth(1).expect(head);
             let number = number.parse().expect("a number");
             let code = listing::code(lines);
             assert_refused(&name, &code, head, number);
             if number == NOT_ADMITTED {
-                assert_fault(&name, lines);
+                assert_fault(&name, head, lines);
             }
             if number == 5 {
                 let rom = file(&folder, "program.rom", &code);

@@ -16,6 +16,14 @@ _Static_assert(sizeof(uxn_written) == 16, "what was written");
 _Static_assert(offsetof(uxn_written, line) == 8, "line");
 _Static_assert(offsetof(uxn_written, number) == 12, "number of a refused write");
 
+_Static_assert(sizeof(uxn_place) == 6, "a place");
+_Static_assert(offsetof(uxn_place, routine) == 4, "routine of a place");
+_Static_assert(sizeof(uxn_why) == 22, "why a program is refused");
+_Static_assert(offsetof(uxn_why, count) == 2, "count");
+_Static_assert(offsetof(uxn_why, here) == 4, "here");
+_Static_assert(offsetof(uxn_why, next) == 10, "next");
+_Static_assert(offsetof(uxn_why, other) == 16, "other");
+
 static uint8_t memory[65536], device_page[256], working[256], ret[256];
 
 #define BUFFERS memory, sizeof memory, device_page, sizeof device_page, working, sizeof working, ret, sizeof ret
@@ -33,6 +41,22 @@ static void say_sheet(const uint8_t *program, size_t length, uint8_t *sheet, siz
     printf("admit: %u, sheet", uxn_admit(program, length, sheet, sheet_length));
     for (place = 0; place < sheet_length; place++)
         printf(place % 8 ? " %02x" : ", %02x", sheet[place]);
+    printf("\n");
+}
+
+static void say_place(uxn_place place)
+{
+    printf(", %04x %u %u %04x", place.at, place.work, place.ret, place.routine);
+}
+
+static void say_why(const uint8_t *program, size_t length)
+{
+    uxn_why why = uxn_explain(program, length);
+
+    printf("explain: %u, rule %u, count %u", why.number, why.rule, why.count);
+    say_place(why.here);
+    say_place(why.next);
+    say_place(why.other);
     printf("\n");
 }
 
@@ -54,6 +78,12 @@ int main(void)
     static const uint8_t refused[] = {0x02, 0x00};
     /* a call of the routine at 0104, BRK after it, JMP2r */
     static const uint8_t caller[] = {0x60, 0x00, 0x01, 0x00, 0x6c};
+    /* a program for each rule, in the order of their numbers, but for depths above 255 */
+    static const uint8_t cut[] = {0x80}, forbidden[] = {0x0c}, few_working[] = {0x18}, few_return[] = {0x58};
+    static const uint8_t below_floor[] = {0x60, 0x00, 0x01, 0x00, 0x42, 0x00};
+    static const uint8_t outside[] = {0x80, 0x07}, ways_differ[] = {0x80, 0x07, 0x40, 0xff, 0xfb};
+    static const uint8_t return_in_0100[] = {0xe0, 0x00, 0x00, 0x6c}, return_off_floor[] = {0x60, 0x00, 0x01, 0x00, 0xc0, 0x00, 0x6c};
+    static const uint8_t returns_differ[] = {0xa0, 0x00, 0x00, 0x60, 0x00, 0x01, 0x00, 0x20, 0x00, 0x01, 0x6c, 0x02, 0x6c};
     static const uint32_t wrong[] = {16, 255, 256, 259, 65536 + 3, UINT32_MAX};
     /* a marked record and one that is not marked; the same with a routine of its own */
     static const uint8_t old[] = {1, 2, 3, 0xa0, 0, 0, 0, 0xf2};
@@ -97,6 +127,25 @@ int main(void)
     printf("admit: %d\n", uxn_admit(memory, 4097, sheet, 0) == UXN_ADMIT_LENGTH);
     printf("admit: %d\n", uxn_admit(program, sizeof program, sheet, 0) == UXN_SHEET_LENGTH);
     printf("admit: %d\n", uxn_admit(refused, sizeof refused, sheet, 16) == UXN_NO_ASSIGNMENT);
+
+    say_why(cut, sizeof cut);
+    say_why(forbidden, sizeof forbidden);
+    say_why(few_working, sizeof few_working);
+    say_why(few_return, sizeof few_return);
+    say_why(below_floor, sizeof below_floor);
+    say_why(outside, sizeof outside);
+    say_why(ways_differ, sizeof ways_differ);
+    say_why(return_in_0100, sizeof return_in_0100);
+    say_why(return_off_floor, sizeof return_off_floor);
+    printf("explain: %d\n", uxn_explain(returns_differ, sizeof returns_differ).rule == UXN_RULE_RETURNS_DIFFER);
+    /* literals, up to 256 bytes on a stack */
+    memset(memory, 0xa0, 4096);
+    say_why(memory, 4096);
+    memset(memory, 0xe0, 4096);
+    say_why(memory, 4096);
+    say_why(program, sizeof program);
+    printf("explain: %d\n", uxn_explain(program, 0).number == UXN_PROGRAM_LENGTH);
+    printf("explain: %d\n", uxn_explain(memory, 4097).number == UXN_ADMIT_LENGTH);
 
     memset(wide, 7, sizeof wide);
     memset(narrow, 7, sizeof narrow);

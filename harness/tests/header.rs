@@ -45,6 +45,21 @@ admit: 1
 admit: 1
 admit: 1
 admit: 1
+explain: 11, rule 1, count 2, 0100 0 0 0100, 0000 0 0 0000, 0000 0 0 0000
+explain: 11, rule 2, count 0, 0100 0 0 0100, 0000 0 0 0000, 0000 0 0 0000
+explain: 11, rule 3, count 2, 0100 0 0 0100, 0000 0 0 0000, 0000 0 0 0000
+explain: 11, rule 4, count 2, 0100 0 0 0100, 0000 0 0 0000, 0000 0 0 0000
+explain: 11, rule 5, count 1, 0104 0 2 0104, 0000 0 0 0000, 0104 0 2 0104
+explain: 11, rule 8, count 0, 0100 0 0 0100, 0102 1 0 0100, 0000 0 0 0000
+explain: 11, rule 9, count 0, 0102 1 0 0100, 0100 1 0 0100, 0100 0 0 0100
+explain: 11, rule 10, count 0, 0103 0 2 0100, 0000 0 0 0000, 0000 0 0 0000
+explain: 11, rule 11, count 0, 0106 0 3 0104, 0000 0 0 0000, 0104 0 2 0104
+explain: 1
+explain: 11, rule 6, count 256, 027d 254 0 0100, 0000 0 0 0000, 0000 0 0 0000
+explain: 11, rule 7, count 256, 027d 0 254 0100, 0000 0 0 0000, 0000 0 0 0000
+explain: 0, rule 0, count 0, 0000 0 0 0000, 0000 0 0 0000, 0000 0 0 0000
+explain: 1
+explain: 1
 widen: length 16, line 0, number 0, output 01 02 03 a0 01 00 00 00 00 00 00 f2 00 00 00 00 07 07
 narrow: length 8, line 0, number 0, output 01 02 03 a0 00 00 00 f2 07
 widen: 1
@@ -213,7 +228,7 @@ fn the_calls_are_declared_in_c90_too() {
 // The version
 
 /// The version, and a sum over the header without comments and white space as it is in that version.
-const INTERFACE: (&str, u64) = ("3", 14_798_871_572_372_559_815);
+const INTERFACE: (&str, u64) = ("4", 4_396_636_829_060_304_309);
 
 /// The header without comments and white space.
 fn bare(header: &str) -> String {

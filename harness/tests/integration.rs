@@ -140,6 +140,7 @@ fn the_programs_print_what_the_page_says() {
         ("c", "filter.c", "", gcc),
         ("rust", "filter.rs", "", rustc),
         ("c", "calls.c", "calls.c", gcc),
+        ("c", "why.c", "why.c", gcc),
         ("c", "sheets.c", "sheets.c", gcc),
     ] {
         let expected = &block(&blocks, "text", printed).text;
@@ -148,7 +149,7 @@ fn the_programs_print_what_the_page_says() {
         let commands = &block(&blocks, "sh", name).text;
         assert!(commands.starts_with(compiler), "{commands:?}");
     }
-    assert_eq!(blocks.len(), 11, "a block that is not tested");
+    assert_eq!(blocks.len(), 14, "a block that is not tested");
 }
 
 // Constants and layout
@@ -176,6 +177,7 @@ fn the_page_has_every_constant_with_its_value() {
     for head in [
         "| answer | value | of | meaning |",
         "| number | value | when | look here |",
+        "| rule | value | the instruction at `here` | `count` | `next` | `other` |",
     ] {
         for row in table(&page, head) {
             said.push((row[0].trim_matches('`').to_owned(), row[1].clone()));
@@ -190,7 +192,14 @@ fn the_structs_are_laid_out_as_the_page_says() {
     let page = page();
     let header = header();
     let mut asserted = String::from("#include <stddef.h>\n#include \"uxn_filter.h\"\n");
-    for name in ["uxn_machine", "uxn_reply", "uxn_written", "uxn_host"] {
+    for name in [
+        "uxn_machine",
+        "uxn_reply",
+        "uxn_why",
+        "uxn_place",
+        "uxn_written",
+        "uxn_host",
+    ] {
         let head = format!("| field of `{name}` | type | at | meaning |");
         let (before, _) = page.split_once(&head).expect("the table");
         let (_, size) = before.rsplit_once("It has ").expect("the size");

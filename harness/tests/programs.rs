@@ -1,5 +1,6 @@
-//! The linked programs `frames` and `sheet`: arguments, files and pipes of every kind, their lines,
-//! sheets and messages beside the second machine and the second admission, the example, and valgrind.
+//! The linked programs `frames`, `sheet` and `explain`: arguments, files and pipes of every kind,
+//! their lines, sheets and messages beside the second machine, the second admission and the call that
+//! explains, the example, and valgrind.
 
 use std::ffi::OsStr;
 use std::fs::{self, File};
@@ -14,20 +15,25 @@ use std::sync::{mpsc, Mutex};
 use std::thread;
 use std::time::{Duration, Instant};
 
+use uxn_filter_harness::admissions::Admissions;
 use uxn_filter_harness::assembler::assemble;
 use uxn_filter_harness::calls::{ADMIT_LIMIT, PROGRAM_LIMIT, RECORD, SHEET_RECORD};
 use uxn_filter_harness::compiled::{printed, repository};
-use uxn_filter_harness::filters::{any, any_length};
+use uxn_filter_harness::filters::{
+    any, any_length, broken, climb, likely_bytes, FAULTS, ROOM_FOR_A_FAULT,
+};
 use uxn_filter_harness::linked::{
-    self, after, assert_writes, assert_written, calling, ends, expected_frames, expected_lines,
-    expected_sheet, file, frames, lines_of, pipe, program, quick, random_record, run,
-    run_in_pieces, said_at_end, sheet, sheet_of, Written, BUDGET, INPUT, IS_FOLDER, NOT_OPEN,
-    NOT_READ, NO_FILE, NO_READER, NO_SPACE, OUTPUT, PASSES, PATIENCE, SIGPIPE,
+    self, after, assert_writes, assert_written, calling, ends, expected_explained, expected_frames,
+    expected_lines, expected_sheet, explain, file, frames, lines_of, pipe, program, quick,
+    random_record, run, run_in_pieces, said_at_end, sheet, sheet_of, Written, BUDGET, INPUT,
+    IS_FOLDER, NOT_OPEN, NOT_READ, NO_FILE, NO_READER, NO_SPACE, OUTPUT, PASSES, PATIENCE, SIGPIPE,
 };
 use uxn_filter_harness::listing::{self, hexadecimal, listing, Listed};
+use uxn_filter_harness::opcodes::{BRK, DUP, INC, JMP2R, LIT, POP};
 use uxn_filter_harness::pair::say;
 use uxn_filter_harness::programs::either;
 use uxn_filter_harness::random::{seed, Random};
+use uxn_filter_harness::sentences;
 
 /// Between pieces of input.
 const PAUSE: Duration = Duration::from_millis(5);
@@ -76,9 +82,12 @@ fn numbers(text: &str) -> Vec<usize> {
 fn help() {
     let of_frames = [RECORD, BUDGET as usize, 5, PROGRAM_LIMIT, 8, RECORD - 2, 0];
     let of_sheet = [5, 9, ADMIT_LIMIT, 11];
+    // The mode 2 is for 16 bits.
+    let of_explain = [5, 9, ADMIT_LIMIT, 11, 2, 16];
     for (name, first, said) in [
         ("frames", "usage: frames PROGRAM RECORDS", &of_frames[..]),
         ("sheet", "usage: sheet < PROGRAM > SHEET", &of_sheet[..]),
+        ("explain", "usage: explain < PROGRAM", &of_explain[..]),
     ] {
         let text = usage(name);
         assert_eq!(text.lines().next(), Some(first));
@@ -107,7 +116,11 @@ fn wrong_arguments() {
         lists.push(vec![example("filter.rom").display().to_string(); count]);
         lists.push(vec![help(); count]);
     }
-    for (name, other) in [("frames", Vec::new()), ("sheet", vec![help(); 2])] {
+    for (name, other) in [
+        ("frames", Vec::new()),
+        ("sheet", vec![help(); 2]),
+        ("explain", vec![help(); 2]),
+    ] {
         let expected = Written::only_said(usage(name));
         for arguments in lists.iter().chain([&other]) {
             let mut command = Command::new(program(name));
@@ -448,6 +461,17 @@ fn descriptors_that_are_closed() {
     ] {
         assert_writes(&mut after(closed, "sheet"), code, &expected);
     }
+
+    for code in [&PASSES[..], &REFUSED] {
+        for (closed, expected) in [
+            ("exec <&-", Written::failed(INPUT, NOT_OPEN)),
+            ("exec >&-", unwritten()),
+            ("exec 2>&-", expected_explained(code)),
+            ("exec >&- 2>&-", nothing()),
+        ] {
+            assert_writes(&mut after(closed, "explain"), code, &expected);
+        }
+    }
 }
 
 /// Where a message can not be written all else is as ever; a pipe whose reader has gone ends the
@@ -516,12 +540,15 @@ fn a_read_that_fails() {
         }
     }
     for code in [&PASSES[..], &REFUSED] {
-        for (read, expected) in [
-            (1, Written::failed(INPUT, NOT_READ)),
-            (2, Written::failed(INPUT, NOT_READ)),
-            (3, expected_sheet(code)),
-        ] {
-            assert_writes(&mut failing(sheet(), read), code, &expected);
+        let both = [
+            (sheet as fn() -> Command, expected_sheet(code)),
+            (explain, expected_explained(code)),
+        ];
+        for (command, expected) in both {
+            let unread = Written::failed(INPUT, NOT_READ);
+            for (read, expected) in [(1, &unread), (2, &unread), (3, &expected)] {
+                assert_writes(&mut failing(command(), read), code, expected);
+            }
         }
     }
 }
@@ -582,6 +609,15 @@ fn little_memory() {
     for code in [&PASSES[..], &REFUSED] {
         let mut command = after("ulimit -v 16384 && ulimit -s 128", "sheet");
         assert_writes(&mut command, code, &expected_sheet(code));
+    }
+    // The longest program, and calls as deep as can be.
+    let mut deep = assemble("JSI 0001 BRK");
+    deep.extend(assemble("JSI 0001 JMP2r").repeat(126));
+    deep.push(JMP2R);
+    assert_eq!(expected_explained(&deep).out, b"admitted\n");
+    for code in [&PASSES[..], &REFUSED, &deep, &vec![DUP; ADMIT_LIMIT]] {
+        let mut command = after("ulimit -v 16384 && ulimit -s 128", "explain");
+        assert_writes(&mut command, code, &expected_explained(code));
     }
 }
 
@@ -919,6 +955,129 @@ fn sheet_says_what_it_can_not_read_or_write() {
     }
 }
 
+// explain
+
+/// The lines of every length and of programs by name, from a pipe, in pieces and from a file.
+#[test]
+fn lines_of_explain() {
+    let folder = folder("lines_of_explain");
+    let long_and_wrong = vec![POP; ADMIT_LIMIT + 1];
+    let mut outside = vec![INC; ADMIT_LIMIT];
+    outside[0] = LIT;
+    let stores = assemble("LIT 00 LIT2 0010 STA BRK");
+    let cut = "refused 11 at 0100: LIT is 2 bytes long, and the program ends after 1 of them\n";
+    let pops = "refused 11 at 0100: POP takes 1 byte of the working stack, which holds 0\n";
+    let off =
+        "refused 11 at 10FF: INC goes on to 1100, outside the program, which is 0100 to 10FF\n";
+    for (code, line) in [
+        (&[][..], "refused 5\n"),
+        (&[BRK], "admitted\n"),
+        (&PASSES, "admitted\n"),
+        (&vec![BRK; ADMIT_LIMIT - 1], "admitted\n"),
+        (&vec![BRK; ADMIT_LIMIT], "admitted\n"),
+        (&vec![BRK; ADMIT_LIMIT + 1], "refused 9\n"),
+        (&vec![BRK; ADMIT_LIMIT + 2], "refused 9\n"),
+        (&vec![BRK; 100_000], "refused 9\n"),
+        (&long_and_wrong, "refused 9\n"),
+        (&long_and_wrong[1..], pops),
+        (&outside, off),
+        (&REFUSED, cut),
+        (
+            &stores,
+            "refused 11 at 0105: STA is not allowed in a filter\n",
+        ),
+    ] {
+        let expected = Written::only_out(line);
+        assert_writes(&mut explain(), code, &expected);
+        let pause = Duration::from_micros(100);
+        let output = run_in_pieces(&mut explain(), code, 1 + code.len() / 40, pause);
+        assert_written(&output, &expected, "in pieces");
+        let rom = File::open(file(&folder, "program.rom", code)).unwrap();
+        let output = explain().stdin(rom).output().expect("the program runs");
+        assert_written(&output, &expected, "from a file");
+        assert_eq!(expected_explained(code).out, line.as_bytes());
+    }
+    // No more is read than tells that it is too long.
+    let zeros = File::open("/dev/zero").expect("the device opens");
+    let output = explain().stdin(zeros).output().expect("the program runs");
+    assert_written(&output, &Written::only_out("refused 9\n"), "/dev/zero");
+}
+
+/// The example that `rt check` runs.
+#[test]
+fn the_example_of_explain() {
+    let [input, line] =
+        ["stdin", "stdout"].map(|name| fs::read(repository("crates/explain").join(name)).unwrap());
+    assert_writes(&mut explain(), &input, &Written::only_out(line));
+}
+
+#[test]
+fn explain_says_what_it_can_not_read_or_write() {
+    let folder = folder("explain_says_what_it_can_not_read_or_write");
+    // There is nothing there yet, and it does not wait.
+    let (_ours, theirs) = impatient();
+    for (input, reason) in [
+        (Stdio::from(File::open(&folder).unwrap()), IS_FOLDER),
+        (theirs.into(), NOT_YET),
+    ] {
+        let output = explain().stdin(input).output().expect("the program runs");
+        assert_written(&output, &Written::failed(INPUT, reason), "explain");
+    }
+
+    // There is always a line to be written.
+    for code in [&[][..], &PASSES, &REFUSED] {
+        let rom = file(&folder, "program.rom", code);
+        let ended = |output: Stdio| {
+            let child = explain()
+                .stdin(File::open(&rom).unwrap())
+                .stdout(output)
+                .stderr(Stdio::piped())
+                .spawn();
+            let output = child.and_then(|child| child.wait_with_output());
+            output.expect("the program runs")
+        };
+        let expected = Written::failed(OUTPUT, NO_SPACE);
+        assert_written(&ended(full()), &expected, "explain");
+        let (reader, writer) = io::pipe().expect("a pipe");
+        drop(reader);
+        let output = ended(writer.into());
+        assert_eq!(output.status.signal(), Some(SIGPIPE));
+        assert_eq!(output.stderr, []);
+    }
+}
+
+/// Programs of every kind, and more of those that come to the ends of the depths or have one fault:
+/// the line is that of the reason which the call gives, and every rule is among them. The reason is
+/// held to be true, and the number is that of the second admission.
+#[test]
+fn lines_beside_the_call() {
+    let mut admissions = Admissions::new(seed());
+    let mut random = Random::new(seed());
+    let mut lines = 0;
+    let mut both = |code: &[u8]| {
+        admissions.admit(code);
+        let expected = sentences::line(code, &admissions.why());
+        assert_writes(&mut explain(), code, &Written::only_out(expected));
+        lines += 1;
+    };
+    for turn in 0..800 {
+        let length = any_length(&mut random, ADMIT_LIMIT + 1);
+        both(&any(&mut random, turn, length));
+        let [working, ret] = [(); 2].map(|()| random.choose(&[0, 1, 5, 250, 254, 255]));
+        let mut code = climb(working, ret);
+        let length = 1 + random.below(40);
+        code.extend(likely_bytes(&mut random, length));
+        both(&code);
+        let fault = FAULTS[turn % FAULTS.len()];
+        both(&broken(&mut random, ROOM_FOR_A_FAULT, fault));
+    }
+    for (name, told) in admissions.told() {
+        assert!(told >= 5, "{told} {name}");
+    }
+    say(&format!("explain: {lines} lines as the call has them"));
+    admissions.say_total("explain");
+}
+
 // Success
 
 /// The command by which `README.md` tells whether a program is admitted.
@@ -966,7 +1125,7 @@ fn a_script_tells_success() {
     leaves.join().unwrap().expect("the program is written");
 }
 
-// Both, under valgrind
+// All, under valgrind
 
 /// A run, and what it should write.
 struct Watched {
@@ -995,6 +1154,15 @@ fn watched_sheet(input: &[u8]) -> Watched {
         arguments: Vec::new(),
         input: input.to_vec(),
         expected: expected_sheet(input),
+    }
+}
+
+fn watched_explain(input: &[u8]) -> Watched {
+    Watched {
+        program: "explain",
+        arguments: Vec::new(),
+        input: input.to_vec(),
+        expected: expected_explained(input),
     }
 }
 
@@ -1034,6 +1202,9 @@ fn valgrind_has_nothing_to_say() {
         watched_sheet(&calling()),
         watched_help("frames"),
         watched_help("sheet"),
+        watched_explain(&[]),
+        watched_explain(&calling()),
+        watched_help("explain"),
     ];
     for (turn, length) in [(0, PROGRAM_LIMIT), (1, 1), (0, PROGRAM_LIMIT + 1)] {
         let code = either(&mut random, turn, length, true);
@@ -1041,7 +1212,13 @@ fn valgrind_has_nothing_to_say() {
         runs.push(watched_frames(&rom, &few));
     }
     for (turn, length) in [(0, 2_000), (2, ADMIT_LIMIT), (0, ADMIT_LIMIT + 1)] {
-        runs.push(watched_sheet(&any(&mut random, turn, length)));
+        let code = any(&mut random, turn, length);
+        runs.push(watched_explain(&code));
+        runs.push(watched_sheet(&code));
+    }
+    for fault in FAULTS.into_iter().step_by(3) {
+        let code = broken(&mut random, ROOM_FOR_A_FAULT, fault);
+        runs.push(watched_explain(&code));
     }
 
     let next = Mutex::new(runs.iter());

@@ -13,7 +13,7 @@ static uint8_t program[4096], sheet[8 * sizeof program], record[64];
 /* stored sheets, whose first record is marked and whose others are not, in the old form and in the new one */
 static const uint8_t narrow_sheet[4 * sizeof program] = {1, 0, 0, 0x80}, wide_sheet[8 * sizeof program] = {1, 0, 0, 0x80, 1};
 static size_t length;
-static uint8_t painted[65536];
+static uint8_t painted[131072];
 static ucontext_t host, guest;
 
 #define BUFFERS memory, sizeof memory, device_page, sizeof device_page, working, sizeof working, ret, sizeof ret
@@ -27,6 +27,7 @@ static void run(void) { uxn_run(start, BUFFERS, 100); }
 static void event(void) { uxn_event(start, BUFFERS, 0, 100); }
 static void frame(void) { uxn_frame(start, BUFFERS, record, sizeof record, 100); }
 static void admit(void) { uxn_admit(program, length, sheet, 8 * length); }
+static void explain(void) { uxn_explain(program, length); }
 static void widen(void) { uxn_widen_sheet(narrow_sheet, 4 * length, sheet, 8 * length); }
 static void narrow(void) { uxn_narrow_sheet(wide_sheet, 8 * length, sheet, 4 * length); }
 
@@ -76,8 +77,9 @@ int main(void)
     static const struct {
         const char *name;
         void (*call)(void);
-    } calls[] = {{"uxn_load", load},   {"uxn_step", step},   {"uxn_run", run},           {"uxn_event", event},
-                 {"uxn_frame", frame}, {"uxn_admit", admit}, {"uxn_widen_sheet", widen}, {"uxn_narrow_sheet", narrow}};
+    } calls[] = {{"uxn_load", load},       {"uxn_step", step},           {"uxn_run", run},
+                 {"uxn_event", event},     {"uxn_frame", frame},         {"uxn_admit", admit},
+                 {"uxn_explain", explain}, {"uxn_widen_sheet", widen}, {"uxn_narrow_sheet", narrow}};
     size_t without = most(none), n;
 
     for (n = 0; n < sizeof calls / sizeof *calls; n++)

@@ -10,13 +10,14 @@ use Rattle.model.specs.Bytes.{Every}
 use Rattle.model.specs.Machine.{start}
 use Rattle.model.specs.Admission.{Mark, admitMost, successors, GoesOn, Leaves, floor, Rules, markAt, sheetOf, recordAt, markIn, Smallest}
 use Rattle.model.specs.Admission.Mark.{unmarked, marked}
-use Rattle.model.proofs.Reached.{begun, begun-first, begun-cases}
+use Rattle.model.specs.Admission.Way.{begin}
+use Rattle.model.proofs.Reached.{begun, begun-first, begun-cases, along, assigned-closed}
 use Rattle.model.proofs.Rules.{marked-at, successors-by}
 use Rattle.model.proofs.Sheet.{length-sheet, mark-in, record-is}
-use Rattle.worklist.specs.Worklist.{Marks, Obeyed, Listed, Extended, placed, Calls, returnedWith, Waiting, Visit, Visited}
+use Rattle.worklist.specs.Worklist.{Marks, Obeyed, Listed, Extended, placed, Calls, Returned, Waiting, Visit, Visited}
 use Rattle.worklist.proofs.Sheets.{withMark, sheet-set}
-use Rattle.worklist.specs.declared.Next.{Next}
 use Rattle.worklist.proofs.Returns.{other-visited}
+use Rattle.worklist.proofs.Waits.{same-return}
 use Rattle.admission.specs.declared.Stop.{Stop}
 use Rattle.admission.specs.Explored.{OfRoutines, Going, Walked}
 use Rattle.admission.proofs.Blank.{blank, zero-at}
@@ -62,9 +63,9 @@ module _ (program sheet queue : List ℕ) (some : 1 ≤ length program) (most : 
       record {
         routinesSize = length-replicate {A = ℕ} admitMost 0;
         beforeSize = length-replicate {A = ℕ} admitMost 0;
-        small = λ i. omega (arith, zero-at admitMost i);
+        passed = λ k h. absurd (omega arith);
         returned = λ k v r q h. absurd (omega arith);
-        leaves = λ q v l e. absurd (omega (arith, zero-at admitMost (q - start)));
+        leaves = λ q j l e. absurd (omega (arith, zero-at admitMost (q - start)));
         back = λ k q v h. absurd (omega arith);
         lasts = λ q l m.
             let z = zero-at admitMost (q - start) in
@@ -84,9 +85,7 @@ module _ (program sheet queue : List ℕ) (some : 1 ≤ length program) (most : 
           written = wrote;
           counted = sym (begun-first (length program) (omega arith) .1);
           first = first-mark;
-          forced = λ at w r q e marks a.
-              let o = only at w r q e in
-              rw (o .0, ← o .1, ← o .2, ← o .3) ((omega arith, omega arith), a .first);
+          ways = λ at w r q e. let o = only at w r q e in rw (o .0, ← o .1, ← o .2, ← o .3) (begin, tt);
           rooted = λ at w r q e. let o = only at w r q e in rw (← o .2, ← o .3) record { led = inl refl; work = 0; floor = 0; entered = first-mark; low = omega arith };
           listed = λ k h. let z : k ≡ 0 = omega arith in (0, 0, start, rw (z, zeroth) first-mark);
           covers = λ at w r q e. (0, omega arith, only at w r q e .0 ∙ sym zeroth);
@@ -201,7 +200,7 @@ module _ (program sheet queue : List ℕ) (first listed : ℕ) (sheet₁ queue�
               return
               sheet₂
               queue₂
-              (Next.Queued tail₂)
+              tail₂
               o);
         }
 
@@ -232,8 +231,8 @@ module _ (program sheet queue routines before : List ℕ) (head tail : ℕ) (g :
       let c = list .covers at w r q e in
       rw (c .2) (g .visited (c .0) (omega (arith, c .1)) w r q (rw (c .2) at e))
 
-  -- the array has the working depth of each return
-  depth-is : (q v : ℕ) → Leaves program (markIn sheet) q v → getD routines (q - start) 0 ≡ returnedWith v
+  -- the array has a return with the working depth of each
+  depth-is : (q v : ℕ) → Leaves program (markIn sheet) q v → Returned program sheet routines q v
   depth-is q v x =
       let c = list .covers (x .at) v (x .ret) q (x .here) in
       waiting .returned (c .0) v (x .ret) q (omega (arith, c .1)) (rw (c .2) at (x .here)) (rw (c .2) at (x .returns))
@@ -250,12 +249,12 @@ module _ (program sheet queue routines before : List ℕ) (head tail : ℕ) (g :
         assigned = record {
           first = list .first;
           rules = rules;
-          one = λ q v w x y. let e = depth-is q v x in let f = depth-is q w y in omega arith;
+          one = λ q v w x y. same-return program sheet routines q v w (depth-is q v x) (depth-is q w y);
           back = λ q v c x.
               let k = list .covers (c .at) (c .work) (c .ret) (c .routine) (c .here) in
               let call : Calls program queue q (k .0) = (rw (k .2) at (c .calls), rw (k .2) at (c .enters)) in
               let e = waiting .back (k .0) q v (omega (arith, k .1)) (routine-low (x .at) v (x .ret) q (x .here)) call (depth-is q v x) (c .work) (c .ret) (c .routine) (rw (k .2) at (c .here)) in
               rw (k .2) (within _ v (c .ret) (c .routine) e);
         };
-        least = λ f a at w r q e. list .forced at w r q e f a .1;
+        least = λ f a at w r q e. along program f (assigned-closed program f a) (list .ways at w r q e .0);
       }

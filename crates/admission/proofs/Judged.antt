@@ -1,4 +1,4 @@
--- What the answers of `depths_after`, `of_routines` and `walk` say. Assumes nothing.
+-- What the answers of `depths_after`, `of_routines`, `walk` and a visit say. Assumes nothing.
 use mathlib.Core.Path.{_≡_, refl, sym, _∙_}
 use mathlib.Core.Logic.{inl, inr}
 use mathlib.Core.Bool.{Bool, true, false, _||_, true≢false}
@@ -10,24 +10,22 @@ use native.Mathlib.Omega.{arith}
 use lib.Dec.{eqb, ltb}
 use lib.ListN.{getD}
 use borrow.Author.Tests.{eqb-true, eqb-false, le-ltb}
-use Rattle.model.specs.Machine.{start}
 use Rattle.model.specs.Instruction.{lengthOf}
-use Rattle.model.specs.Admission.{Mark, Rules, Assignable}
-use Rattle.worklist.specs.Worklist.{workAt, retAt, Tested}
+use Rattle.worklist.specs.Worklist.{Tested, Fails, Told, Outcome}
+use Rattle.worklist.specs.declared.Next.{Next}
+use Rattle.worklist.specs.declared.Rule.{Rule}
+use Rattle.worklist.proofs.Next.{the-type as next-type}
 use Rattle.admission.specs.declared.Depths.{Depths}
 use Rattle.admission.specs.declared.Stop.{Stop}
-use Rattle.admission.proofs.Depths.{the-type}
-use Rattle.admission.proofs.Stop.{the-type as stop-type}
-use Rattle.admission.specs.Explored.{Judged, OfRoutines, Walked}
+use Rattle.admission.specs.Explored.{Judged, OfRoutines, Walked, Explored}
 
-module _ (program sheet : List ℕ) (i : ℕ) (d : Depths) (judged : Judged program sheet i d) where
-  pub tested : (after work ret : ℕ) → d ≡ Depths.After after work ret → Tested program sheet i work ret × (after ≡ i + lengthOf (getD program i 0))
-  tested after work ret e = rw e at judged
+module _ (program sheet : List ℕ) (i : ℕ) (d : Depths) where
+  pub tested : Judged program sheet i d → (after work ret : ℕ) → d ≡ Depths.After after work ret
+      → Tested program sheet i work ret × (after ≡ i + lengthOf (getD program i 0))
+  tested judged after work ret e = rw e at judged
 
-pub fails : (program sheet : List ℕ) (i : ℕ) (d : Depths) → OneOf (0 ∷ []) (tagOf the-type d) → Judged program sheet i d
-    → (marks : ℕ → Mark) (q : ℕ) → Rules program marks (start + i) (workAt sheet i) (retAt sheet i) q → ⊥
-fails program sheet i Depths.Fails e judged = judged
-fails program sheet i (Depths.After after work ret) e judged = absurd (miss (0 ∷ []) 1 tt e)
+  pub fails : (rule : Rule) → d ≡ Depths.Fails rule → Judged program sheet i d → Fails program sheet rule i 0
+  fails rule e judged = rw e at judged
 
 -- ---- the byte of a call or a return, and another
 
@@ -62,7 +60,18 @@ pub walked : (program sheet queue : List ℕ) (first listed : ℕ) (sheet₁ que
     → Walked program sheet queue first listed sheet₁ queue₁ w → Walked program sheet queue first listed sheet₁ queue₁ (Stop.At head tail)
 walked program sheet queue first listed sheet₁ queue₁ w head tail e o = rw e at o
 
-pub walk-fails : (program sheet queue : List ℕ) (first listed : ℕ) (sheet₁ queue₁ : List ℕ) (w : Stop) → OneOf (0 ∷ []) (tagOf stop-type w)
-    → Walked program sheet queue first listed sheet₁ queue₁ w → Assignable program → ⊥
-walk-fails program sheet queue first listed sheet₁ queue₁ Stop.Refuted e o = o
-walk-fails program sheet queue first listed sheet₁ queue₁ (Stop.At head tail) e o = absurd (miss (0 ∷ []) 1 tt e)
+pub walk-fails : (program sheet queue : List ℕ) (first listed : ℕ) (sheet₁ queue₁ : List ℕ) (w : Stop) (rule : Rule) (i j : ℕ)
+    → w ≡ Stop.Refuted rule i j → Walked program sheet queue first listed sheet₁ queue₁ w → Told program sheet₁ rule i j
+walk-fails program sheet queue first listed sheet₁ queue₁ w rule i j e o = rw e at o
+
+-- ---- the answers of a visit
+
+pub refuted : (program sheet queue : List ℕ) (tail : ℕ) (sheet₁ queue₁ : List ℕ) (P : Type 0) (n : Next) (rule : Rule) (i j : ℕ)
+    → n ≡ Next.Refuted rule i j → Outcome program sheet queue tail sheet₁ queue₁ P n → Told program sheet₁ rule i j
+refuted program sheet queue tail sheet₁ queue₁ P n rule i j e o = rw e at o
+
+-- one that is passed on
+pub stays : (program sheet queue : List ℕ) (tail : ℕ) (sheet₁ queue₁ : List ℕ) (P : Type 0) (n : Next) → OneOf (0 ∷ []) (tagOf next-type n)
+    → Outcome program sheet queue tail sheet₁ queue₁ P n → Explored program sheet₁ n
+stays program sheet queue tail sheet₁ queue₁ P (Next.Refuted rule i j) e o = o
+stays program sheet queue tail sheet₁ queue₁ P (Next.Queued k) e o = absurd (miss (0 ∷ []) 1 tt e)

@@ -1,13 +1,19 @@
 // Admission of a program: the addresses that are reached from 0100 are marked in the sheet, each once, by a worklist.
 use buffers::clear;
 use model::AdmitReply;
+use model::ExplainReply;
+use reasons::reason;
 use rules::below_floor;
 use rules::depth_by_table;
 use rules::forbidden;
 use rules::lacks;
+use table::LENGTH;
+use table::RETURNING;
+use table::WORKING;
 use table::entry;
 use table::table;
 use worklist::Next;
+use worklist::Rule;
 use worklist::SHEET_RECORD;
 use worklist::START;
 use worklist::call;
@@ -29,18 +35,12 @@ ghost use Rattle.model.specs.Admission.Mark.{unmarked};
 ghost use Rattle.model.specs.Calls.{admitCall};
 ghost use Rattle.model.specs.Replies.{ofAdmit};
 ghost use Rattle.model.specs.Exactness.{Proper};
+ghost use Rattle.model.specs.Reasons.{Explains};
 ghost use Rattle.worklist.specs.Worklist.{retAt, Marks, Obeyed, Listed, Outcome, placed, Visit, Visited};
 ghost use Rattle.admission.specs.Explored.{Judged, OfRoutines, Going, Met, Walked, Explored};
 
 // "above 4,096 bytes" a program is not admitted.
 const ADMIT_MOST: usize = 4096;
-
-// The columns of the table: the two stacks, and the length.
-const WORKING: usize = 0;
-
-const RETURNING: usize = 1;
-
-const LENGTH: usize = 4;
 
 const JSI: u8 = 0x60;
 
@@ -64,10 +64,10 @@ fn unmark(program: &[u8], sheet: &mut [u8])
 
 // ---- the rules at one address
 
-// What the rules say of the instruction at place i by itself, with the depths of its record: one of them fails; or the place after it,
-// and the depths after it.
+// What the rules say of the instruction at place i by itself, with the depths of its record: this one fails; or the place after it, and
+// the depths after it.
 enum Depths {
-    Fails,
+    Fails(Rule),
     After(usize, u8, u8),
 }
 
@@ -77,28 +77,28 @@ fn depths_after(rows: &[u8; 1280], program: &[u8], sheet: &[u8], i: usize) -> De
 {
     let byte = program[i];
     if forbidden(byte) {
-        return Depths::Fails;
+        return Depths::Fails(Rule::Forbidden);
     }
     let after = i + entry(rows, byte, LENGTH) as usize;
     if program.len() < after {
-        return Depths::Fails;
+        return Depths::Fails(Rule::Cut);
     }
     let place = SHEET_RECORD * i;
     let work = sheet[place + 1];
     if lacks(rows, byte, WORKING, work) {
-        return Depths::Fails;
+        return Depths::Fails(Rule::FewWorking);
     }
     let work_after = depth_by_table(rows, byte, WORKING, work);
     if 255 < work_after {
-        return Depths::Fails;
+        return Depths::Fails(Rule::ManyWorking);
     }
     let ret = sheet[place + 2];
     if lacks(rows, byte, RETURNING, ret) {
-        return Depths::Fails;
+        return Depths::Fails(Rule::FewReturn);
     }
     let ret_after = depth_by_table(rows, byte, RETURNING, ret);
     if 255 < ret_after {
-        return Depths::Fails;
+        return Depths::Fails(Rule::ManyReturn);
     }
     Depths::After(after, work_after as u8, ret_after as u8)
 }
@@ -138,14 +138,16 @@ fn visit(
     ensures { λ n. ⌜ Outcome (now (program .entry)) (now (sheet .entry)) (now (queue .entry)) tail (now (sheet .exit)) (now (queue .exit))
         (Obeyed (now (program .entry)) (now (sheet .exit)) (start + i)) n ⌝ }
 {
-    let Depths::After(after, work, ret) = depths_after(rows, program, sheet, i) else {
-        return Next::Refuted;
-    };
-    let routine = routine_of(sheet, i);
-    if sinks(rows, program, sheet, i, routine) {
-        return Next::Refuted;
+    match depths_after(rows, program, sheet, i) {
+        Depths::Fails(rule) => Next::Refuted(rule, i, 0),
+        Depths::After(after, work, ret) => {
+            let routine = routine_of(sheet, i);
+            if sinks(rows, program, sheet, i, routine) {
+                return Next::Refuted(Rule::BelowFloor, i, 0);
+            }
+            follow(program, sheet, queue, tail, i, after, work, ret, routine)
+        }
     }
-    follow(program, sheet, queue, tail, i, after, work, ret, routine)
 }
 
 // JSI and 6C.
@@ -155,10 +157,10 @@ fn of_routines(byte: u8) -> bool
     (byte == JSI) | (byte == RETURN)
 }
 
-// How a walk ends: a rule fails where every assignment has a mark; or at this place of the queue, where a call or a return is next, or
-// nothing, with so many addresses in the queue.
+// How a walk ends: a rule fails, as in `Next`; or at this place of the queue, where a call or a return is next, or nothing, with so many
+// addresses in the queue.
 enum Stop {
-    Refuted,
+    Refuted(Rule, usize, usize),
     At(usize, usize),
 }
 
@@ -181,10 +183,10 @@ fn walk(
         if of_routines(program[i]) {
             return Stop::At(head, tail);
         }
-        let Next::Queued(more) = visit(rows, program, sheet, queue, tail, i) else {
-            return Stop::Refuted;
-        };
-        tail = more;
+        match visit(rows, program, sheet, queue, tail, i) {
+            Next::Refuted(rule, i, j) => return Stop::Refuted(rule, i, j),
+            Next::Queued(more) => tail = more,
+        }
         head += 1;
     }
     Stop::At(head, tail)
@@ -209,24 +211,26 @@ fn visit_routine(
         (Visited (now (program .entry)) (now (sheet .exit)) (now (queue .exit)) head (placed (now (queue .entry)) head) (now (routines .exit)) (now (before .exit))) n ⌝ }
 {
     let i = wide(queue[head]);
-    let Depths::After(_, work, ret) = depths_after(rows, program, sheet, i) else {
-        return Next::Refuted;
-    };
-    if program[i] == RETURN {
-        return leave(program, sheet, queue, tail, head, routines, before);
+    match depths_after(rows, program, sheet, i) {
+        Depths::Fails(rule) => Next::Refuted(rule, i, 0),
+        Depths::After(_, work, ret) => {
+            if program[i] == RETURN {
+                return leave(program, sheet, queue, tail, head, routines, before);
+            }
+            call(
+                program,
+                sheet,
+                queue,
+                tail,
+                head,
+                routines,
+                before,
+                i,
+                work,
+                ret,
+            )
+        }
     }
-    call(
-        program,
-        sheet,
-        queue,
-        tail,
-        head,
-        routines,
-        before,
-        i,
-        work,
-        ret,
-    )
 }
 
 // Visits the addresses from place `first` of the queue on, which has the first call or return that is met.
@@ -237,7 +241,7 @@ fn explore_routines(
     queue: &mut [u16; 4096],
     first: usize,
     listed: usize,
-) -> bool
+) -> Next
     requires { ⌜ RowTable (now rows) × Going (now program) (now sheet) (now queue) first listed (replicate admitMost 0) (replicate admitMost 0)
         × Met (now program) (now queue) first listed ⌝ }
     ensures { λ b. ⌜ Explored (now (program .entry)) (now (sheet .exit)) b ⌝ }
@@ -258,22 +262,24 @@ fn explore_routines(
             &mut before,
         );
         let Next::Queued(more) = next else {
-            return false;
+            return next;
         };
-        let Stop::At(at, end) = walk(rows, program, sheet, queue, head + 1, more) else {
-            return false;
-        };
-        head = at;
-        tail = end;
+        match walk(rows, program, sheet, queue, head + 1, more) {
+            Stop::Refuted(rule, i, j) => return Next::Refuted(rule, i, j),
+            Stop::At(at, end) => {
+                head = at;
+                tail = end;
+            }
+        }
     }
-    true
+    Next::Queued(tail)
 }
 
 // ---- from the first address on
 
-// Visits each address that is reached from 0100, in the order in which they are found; answers whether all obey the rules. The arrays
-// for calls and returns are made when the first one is met.
-fn explore(program: &[u8], sheet: &mut [u8]) -> bool
+// Visits each address that is reached from 0100, in the order in which they are found, until a rule fails; or all obey the rules, so many
+// of them. The arrays for calls and returns are made when the first one is met.
+fn explore(program: &[u8], sheet: &mut [u8]) -> Next
     requires { ⌜ Proper (now program) (now sheet) ⌝ }
     ensures { λ b. ⌜ Explored (now (program .entry)) (now (sheet .exit)) b ⌝ }
 {
@@ -281,13 +287,15 @@ fn explore(program: &[u8], sheet: &mut [u8]) -> bool
     let mut queue = [0u16; 4096];
     unmark(program, sheet);
     mark(sheet, 0, 0, 0, START);
-    let Stop::At(head, tail) = walk(&rows, program, sheet, &mut queue, 0, 1) else {
-        return false;
-    };
-    if head == tail {
-        return true;
+    match walk(&rows, program, sheet, &mut queue, 0, 1) {
+        Stop::Refuted(rule, i, j) => Next::Refuted(rule, i, j),
+        Stop::At(head, tail) => {
+            if head == tail {
+                return Next::Queued(tail);
+            }
+            explore_routines(&rows, program, sheet, &mut queue, head, tail)
+        }
     }
-    explore_routines(&rows, program, sheet, &mut queue, head, tail)
 }
 
 // ---- the call
@@ -306,9 +314,46 @@ pub fn admit(program: &[u8], sheet: &mut [u8]) -> AdmitReply
     if sheet.len() != SHEET_RECORD * program.len() {
         return AdmitReply::Refused(10);
     }
-    if explore(program, sheet) {
-        return AdmitReply::Admitted;
+    let Next::Queued(_) = explore(program, sheet) else {
+        clear(sheet);
+        return AdmitReply::Refused(11);
+    };
+    AdmitReply::Admitted
+}
+
+// The program is admitted, or why it is not; the sheet is as admission asks for it.
+fn tell(program: &[u8], sheet: &mut [u8]) -> ExplainReply
+    requires { ⌜ Proper (now program) (now sheet) ⌝ }
+    ensures { λ r. ⌜ Explains (now (program .entry)) r ⌝ }
+{
+    match explore(program, sheet) {
+        Next::Refuted(rule, i, j) => {
+            let rows = table();
+            ExplainReply::Because(reason(&rows, program, sheet, rule, i, j))
+        }
+        Next::Queued(_) => ExplainReply::Admitted,
     }
-    clear(sheet);
-    AdmitReply::Refused(11)
+}
+
+// The same with a longer sheet, of which a part is as admission asks for it.
+fn tell_in_part(program: &[u8], sheet: &mut [u8]) -> ExplainReply
+    requires { ⌜ (1 ≤ length (now program)) × (length (now program) ≤ admitMost) × (sheetRecord * length (now program) ≤ length (now sheet)) ⌝ }
+    ensures { λ r. ⌜ Explains (now (program .entry)) r ⌝ }
+{
+    let n = SHEET_RECORD * program.len();
+    tell(program, &mut sheet[..n])
+}
+
+// "refused with 5 or 9 as admission is; admitted, exactly when admission admits; else a reason": the first that the visits come upon.
+pub fn explain(program: &[u8]) -> ExplainReply
+    ensures { λ r. ⌜ Explains (now (program .entry)) r ⌝ }
+{
+    if program.len() == 0 {
+        return ExplainReply::Refused(5);
+    }
+    if ADMIT_MOST < program.len() {
+        return ExplainReply::Refused(9);
+    }
+    let mut sheet = [0u8; 32768];
+    tell_in_part(program, &mut sheet)
 }

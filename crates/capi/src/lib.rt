@@ -1,8 +1,10 @@
 // The calls as a static library for C: include/uxn_filter.h declares them, and says what each number means.
 use creply::Reply;
+use creply::Why;
 use creply::Written;
 use creply::of_admit;
 use creply::of_event;
+use creply::of_explain;
 use creply::of_frame;
 use creply::of_load;
 use creply::of_run;
@@ -14,6 +16,7 @@ ghost use Rattle.model.specs.Machine.{state};
 ghost use Rattle.model.specs.Calls.{loadCall, stepCall, runCall, eventCall, frameCall, admitCall};
 ghost use Rattle.model.specs.Moves.{widenCall, narrowCall};
 ghost use Rattle.creply.specs.Exported.{returned, exported, admitReturned, exportedAdmit, writeReturned, exportedWrite};
+ghost use Rattle.creply.specs.Why.{WhyOf};
 
 #[no_mangle]
 pub extern "C" fn uxn_load(
@@ -96,6 +99,13 @@ pub extern "C" fn uxn_admit(program: &[u8], sheet: &mut [u8]) -> u8
     ensures { λ r. ⌜ admitReturned r (now (sheet .exit)) ≡ exportedAdmit (admitCall (now (program .entry)) (now (sheet .entry))) ⌝ }
 {
     of_admit(admission::admit(program, sheet))
+}
+
+#[no_mangle]
+pub extern "C" fn uxn_explain(program: &[u8]) -> Why
+    ensures { λ r. ⌜ WhyOf (now (program .entry)) r ⌝ }
+{
+    of_explain(admission::explain(program))
 }
 
 #[no_mangle]

@@ -1,9 +1,12 @@
 // The replies of the calls as C structs: include/uxn_filter.h declares them.
 use model::AdmitReply;
 use model::EventReply;
+use model::ExplainReply;
 use model::FrameReply;
 use model::LoadReply;
 use model::Machine;
+use model::Place;
+use model::Reason;
 use model::RunReply;
 use model::StepReply;
 use model::WriteReply;
@@ -13,6 +16,7 @@ ghost use Prim.Native.Nat.{ℕ};
 ghost use Rattle.model.specs.Machine.{state};
 ghost use Rattle.model.specs.Replies.{ofLoad, ofStep, ofRun, ofEvent, ofFrame, ofAdmit, ofWrite};
 ghost use Rattle.creply.specs.Exported.{refusedStruct, doneStruct, wroteStruct, returned, exported, admitReturned, exportedAdmit, writeReturned, exportedWrite};
+ghost use Rattle.creply.specs.Why.{nowherePlace, plainStruct, becauseStruct, reasonStruct, whyStruct};
 
 // The answers, as numbers.
 pub const REFUSED: u8 = 0;
@@ -26,6 +30,34 @@ pub const BROKE: u8 = 3;
 pub const SPENT: u8 = 4;
 
 pub const IGNORED: u8 = 5;
+
+// A refused admission that has a reason: no depths and routines obey the rules.
+const NO_ASSIGNMENT: u8 = 11;
+
+// The rules, as numbers.
+const CUT: u8 = 1;
+
+const FORBIDDEN: u8 = 2;
+
+const FEW_WORKING: u8 = 3;
+
+const FEW_RETURN: u8 = 4;
+
+const BELOW_FLOOR: u8 = 5;
+
+const MANY_WORKING: u8 = 6;
+
+const MANY_RETURN: u8 = 7;
+
+const OUTSIDE: u8 = 8;
+
+const WAYS_DIFFER: u8 = 9;
+
+const RETURN_IN_0100: u8 = 10;
+
+const RETURN_OFF_FLOOR: u8 = 11;
+
+const RETURNS_DIFFER: u8 = 12;
 
 // What a call replies: the machine record afterwards, the steps taken, the number of the refusal or 0, the answer, and the
 // verdict or 0.
@@ -45,6 +77,18 @@ pub struct Written {
     pub length: usize,
     pub line: u32,
     pub number: u8,
+}
+
+// Why a program is refused: the number of the refusal or 0; with 11 the rule that fails, the number that it speaks of, the place of the
+// instruction, where it goes on, and another place. What a rule does not have is 0.
+#[repr(C)]
+pub struct Why {
+    pub number: u8,
+    pub rule: u8,
+    pub count: u16,
+    pub here: Place,
+    pub next: Place,
+    pub other: Place,
 }
 
 fn refused(number: u8, machine: Machine) -> Reply
@@ -147,5 +191,75 @@ pub fn of_write(reply: WriteReply) -> Written
     match reply {
         WriteReply::Refused(n) => wrote(0, n),
         WriteReply::Written(length) => wrote(length, 0),
+    }
+}
+
+// ---- why a program is refused
+
+// No place.
+fn nowhere() -> Place
+    ensures { λ r. ⌜ r ≡ nowherePlace ⌝ }
+{
+    Place {
+        at: 0,
+        work: 0,
+        ret: 0,
+        routine: 0,
+    }
+}
+
+// No rule is told.
+fn plain(number: u8) -> Why
+    ensures { λ r. ⌜ r ≡ plainStruct number ⌝ }
+{
+    Why {
+        number,
+        rule: 0,
+        count: 0,
+        here: nowhere(),
+        next: nowhere(),
+        other: nowhere(),
+    }
+}
+
+fn because(rule: u8, count: u16, here: Place, next: Place, other: Place) -> Why
+    ensures { λ r. ⌜ r ≡ becauseStruct rule count here next other ⌝ }
+{
+    Why {
+        number: NO_ASSIGNMENT,
+        rule,
+        count,
+        here,
+        next,
+        other,
+    }
+}
+
+fn of_reason(reason: Reason) -> Why
+    ensures { λ r. ⌜ r ≡ reasonStruct reason ⌝ }
+{
+    match reason {
+        Reason::Cut(p, n) => because(CUT, n as u16, p, nowhere(), nowhere()),
+        Reason::Forbidden(p) => because(FORBIDDEN, 0, p, nowhere(), nowhere()),
+        Reason::FewWorking(p, n) => because(FEW_WORKING, n as u16, p, nowhere(), nowhere()),
+        Reason::FewReturn(p, n) => because(FEW_RETURN, n as u16, p, nowhere(), nowhere()),
+        Reason::BelowFloor(p, n, entry) => because(BELOW_FLOOR, n as u16, p, nowhere(), entry),
+        Reason::ManyWorking(p, n) => because(MANY_WORKING, n, p, nowhere(), nowhere()),
+        Reason::ManyReturn(p, n) => because(MANY_RETURN, n, p, nowhere(), nowhere()),
+        Reason::Outside(p, next) => because(OUTSIDE, 0, p, next, nowhere()),
+        Reason::WaysDiffer(p, next, other) => because(WAYS_DIFFER, 0, p, next, other),
+        Reason::ReturnIn0100(p) => because(RETURN_IN_0100, 0, p, nowhere(), nowhere()),
+        Reason::ReturnOffFloor(p, entry) => because(RETURN_OFF_FLOOR, 0, p, nowhere(), entry),
+        Reason::ReturnsDiffer(p, other) => because(RETURNS_DIFFER, 0, p, nowhere(), other),
+    }
+}
+
+pub fn of_explain(reply: ExplainReply) -> Why
+    ensures { λ r. ⌜ r ≡ whyStruct reply ⌝ }
+{
+    match reply {
+        ExplainReply::Refused(n) => plain(n),
+        ExplainReply::Admitted => plain(0),
+        ExplainReply::Because(reason) => of_reason(reason),
     }
 }

@@ -11,6 +11,7 @@ pub mod Marked
 pub mod Moves
 pub mod Numbers
 pub mod Reached
+pub mod Reasons
 pub mod Refusals
 pub mod Routines
 pub mod Rules

@@ -1,17 +1,16 @@
 -- Laws of one instruction: the depths after it, and where it jumps. Assumes nothing.
 use mathlib.Core.Path.{_≡_, sym, ap, _∙_}
-use mathlib.Core.Bool.{true, not, _&&_, true≢false}
+use mathlib.Core.Bool.{not, _&&_}
 use mathlib.Core.List.{List, [], _∷_}
 use Prim.Native.Nat.{ℕ, _+_, _-_, _*_, _/_, _%_, _^_, _<_}
 use native.Mathlib.Omega.{arith}
-use lib.Dec.{eqb, ltb}
-use lib.ListN.{length, getD}
-use borrow.Author.Tests.{ne-eqb, ltb-true}
+use lib.Dec.{eqb}
+use lib.ListN.{getD}
+use borrow.Author.Tests.{ne-eqb}
 use Rattle.model.specs.Bytes.{number}
 use Rattle.model.specs.Machine.{start}
-use Rattle.model.specs.Instruction.{working, returning, takenFrom, lengthOf}
-use Rattle.model.specs.Admission.{Mark, byteAt, allowed, depthAfter, markAfter, afterOf, targetOf, successors, Rules}
-use Rattle.model.proofs.Tests.{is-true}
+use Rattle.model.specs.Instruction.{lengthOf}
+use Rattle.model.specs.Admission.{Mark, byteAt, allowed, markAfter, afterOf, targetOf, successors}
 use Rattle.model.proofs.EveryByte.{every-byte}
 
 -- the byte at a place of the program
@@ -33,32 +32,6 @@ unfolding allowed
 bit-is byte h other =
     ap (λ b. not b && eqb (0x287000 / 2 ^ (byte % 32) % 2) 1) (sym (ne-eqb byte 0x6C other))
     ∙ every-byte (λ b. not (eqb b 0x6C) && eqb (0x287000 / 2 ^ (b % 32) % 2) 1) (λ b. not (allowed b)) tt byte h
-
--- ---- a rule fails
-
-module _ (program : List ℕ) (marks : ℕ → Mark) (i w r q : ℕ) (rules : Rules program marks (start + i) w r q) where
-  abbrev byte : ℕ
-  byte = getD program i 0
-
-  pub not-allowed : not (allowed byte) ≡ true → ⊥
-  not-allowed e =
-      let t = is-true (allowed byte) (rw (byte-is program i) at (rules .fine)) in
-      true≢false (sym e ∙ ap not t)
-
-  pub too-long : (size : ℕ) → size ≡ lengthOf byte → length program < i + size → ⊥
-  too-long size e h = omega (arith, rw (byte-is program i) at (rules .inside))
-
-  pub lacks-work : ltb w (takenFrom working byte) ≡ true → ⊥
-  lacks-work e = omega (arith, ltb-true w (takenFrom working byte) e, rw (byte-is program i) at (rules .work))
-
-  pub lacks-ret : ltb r (takenFrom returning byte) ≡ true → ⊥
-  lacks-ret e = omega (arith, ltb-true r (takenFrom returning byte) e, rw (byte-is program i) at (rules .ret))
-
-  pub work-above : (n : ℕ) → n ≡ depthAfter working byte w → 255 < n → ⊥
-  work-above n e h = omega (arith, e, rw (byte-is program i) at (rules .workTop))
-
-  pub ret-above : (n : ℕ) → n ≡ depthAfter returning byte r → 255 < n → ⊥
-  ret-above n e h = omega (arith, e, rw (byte-is program i) at (rules .retTop))
 
 -- ---- the addresses where an instruction goes on
 

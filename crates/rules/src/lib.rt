@@ -1,6 +1,7 @@
 // Admission's rules at one instruction: which are allowed, the depths after it, and where it jumps.
 use stack::two_bytes;
 use std::num::wrapping_add_u16;
+use table::RETURNING;
 use table::entry;
 ghost use mathlib.Core.Path.{_≡_};
 ghost use mathlib.Core.Bool.{cond, not};
@@ -13,9 +14,6 @@ ghost use Rattle.model.specs.Admission.{admitMost, byteAt, allowed, depthAfter,
 
 // A program stands at 0100 hexadecimal.
 const START: u16 = 0x0100;
-
-// The column of the table with what is taken from the return stack.
-const RETURNING: usize = 1;
 
 // In the table, what is pushed on a stack stands two columns after what is taken from it.
 const PUSHED: usize = 2;

@@ -8,6 +8,13 @@ ghost use Prim.Native.Nat.{_<_};
 ghost use lib.ListN.{getD};
 ghost use Rattle.model.specs.Instruction.{rowOf, RowTable};
 
+// Columns of the table: what is taken from the working and from the return stack, and the length of the instruction.
+pub const WORKING: usize = 0;
+
+pub const RETURNING: usize = 1;
+
+pub const LENGTH: usize = 4;
+
 // The table, by value: a caller that reads many entries takes it once and lends it to `entry`.
 pub fn table() -> [u8; 1280]
     ensures { λ r. ⌜ RowTable r ⌝ }

@@ -12,7 +12,7 @@ ghost use Rattle.text.specs.Lines.{decimal, refusedLine, line, lineMost}
 
 // Each function here puts text into `out` from `at` on, and answers the place after it; what stands before `at` stays.
 
-fn put(out: &mut [u8], at: usize, text: &[u8]) -> usize
+pub fn put(out: &mut [u8], at: usize, text: &[u8]) -> usize
     requires { ⌜ at + length (now text) ≤ length (now out) ⌝ }
     ensures { λ r. ⌜ (r ≡ at + length (now (text .entry))) × (take r (now (out .exit)) ≡ take at (now (out .entry)) ++ now (text .entry)) ⌝ }
 {

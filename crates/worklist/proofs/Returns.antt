@@ -7,61 +7,92 @@ use native.Mathlib.Decide.{decLt}
 use native.Mathlib.Omega.{arith}
 use lib.ListN.{length, getD, set}
 use Rattle.model.specs.Machine.{start}
-use Rattle.model.specs.Admission.{admitMost, byteAt, afterOf, targetOf, Called, Leaves, floor, Assignable, sheetRecord, markIn}
+use Rattle.model.specs.Instruction.{returning, takenFrom}
+use Rattle.model.specs.Admission.{admitMost, byteAt, Within, afterOf, targetOf, Way, Called, floor, sheetRecord, markIn}
 use Rattle.model.specs.Admission.Mark.{marked}
+use Rattle.model.specs.Admission.Way.{return as comes-back}
+use Rattle.model.specs.Reasons.{Passes, Sound, cameFrom}
 use Rattle.model.proofs.Computing.{decoding}
 use Rattle.rules.proofs.Instructions.{byte-is}
 use Rattle.worklist.specs.declared.Next.{Next}
-use Rattle.worklist.specs.Worklist.{workAt, retAt, routineAt, Forced, Marks, Obeyed, Roots, Listed, Tested, Above, Extended, Outcome, placed, Calls, Last, Back, AllBack, Chain, returnedWith, Waiting, Visit, Visited}
-use Rattle.worklist.proofs.Worklist.{same-parts, grown-leaves, goes-on, marked-parts, root, root-low, root-place, floor-is, record-inside, queue-most, unextended, extended-again, outcome-by, outcome-after}
-use Rattle.worklist.proofs.Visits.{rules, every-floor, forced-call, return-obeyed, call-obeyed}
-use Rattle.worklist.proofs.Waits.{next-other, next-known, next-first, next-waits, next-back, Released, released-one, same-calls, more-last, more-waiting, more-released, forced-back, other-return}
+use Rattle.worklist.specs.declared.Rule.{Rule}
+use Rattle.worklist.specs.Worklist.{workAt, retAt, routineAt, Has, Led, Marks, Passing, Obeyed, Roots, Listed, Tested, Above, Extended, placeAt, backPlace, Lost, Told, Outcome, placed, Calls, Last, Back, AllBack, Left, Chain, returnedAt, Waiting, Visit, Visited}
+use Rattle.worklist.proofs.Worklist.{same-parts, grown-left, goes-on, marked-parts, marked-inside, stands-at, root, root-low, root-place, floor-is, record-inside, queue-most, unextended, extended-again, outcome-by, outcome-after}
+use Rattle.worklist.proofs.Visits.{told, told-alone, rooting, passes, led-call, called-among, target-astray, return-obeyed, call-obeyed}
+use Rattle.worklist.proofs.Waits.{next-other, next-known, next-first, next-waits, next-back, Released, released-one, same-calls, more-passing, more-last, more-waiting, more-released}
 
 -- ---- the address after a call
 
 module _ (program sheet queue : List ℕ) (tail : ℕ) (list : Listed program sheet queue tail) (i : ℕ) (here : Marks sheet (start + i))
-    (jsi : byteAt program (start + i) ≡ 0x60) (v : ℕ) (x : Leaves program (markIn sheet) (targetOf program (start + i)) v) where
+    (jsi : byteAt program (start + i) ≡ 0x60) (pass : Passing program sheet (start + i)) (from v : ℕ)
+    (x : Left program sheet (targetOf program (start + i)) from v) where
   this-mark : markIn sheet (start + i) ≡ marked (workAt sheet i) (retAt sheet i) (routineAt sheet i)
   this-mark = marked-parts program sheet queue tail list i here
 
-  this-call : Called program (markIn sheet) (targetOf program (start + i))
-  this-call =
-      record {
-        at = start + i;
-        work = workAt sheet i;
-        ret = retAt sheet i;
-        routine = routineAt sheet i;
-        here = this-mark;
-        calls = jsi;
-        enters = refl;
-      }
+  this-pass : Passes program (start + i) (workAt sheet i) (retAt sheet i)
+  this-pass = pass (workAt sheet i) (retAt sheet i) (routineAt sheet i) this-mark
 
   after-is : afterOf program (start + i) ≡ start + (i + 3)
   unfolding afterOf decoding
   after-is = rw jsi (omega arith)
 
-  forced-after : Forced program (start + (i + 3)) v (retAt sheet i) (routineAt sheet i)
-  unfolding this-call
-  forced-after = rw after-is at (forced-back program sheet queue tail list (targetOf program (start + i)) v this-call x)
+  pub back-inside : i + 3 ≤ length program
+  unfolding afterOf
+  back-inside = omega (arith, this-pass .inside, after-is)
+
+  -- the way there, from the call and from the return
+  comes : (way : Way program (start + (i + 3)) v (retAt sheet i) (routineAt sheet i)) × Sound way
+      × (cameFrom way ≡ (start + i, marked (workAt sheet i) (retAt sheet i) (routineAt sheet i)))
+  comes =
+      let call = list .ways _ _ _ _ this-mark in
+      let end = list .ways _ _ _ _ (x .here) in
+      let way : Way program (afterOf program (start + i)) v (retAt sheet i) (routineAt sheet i) = comes-back (call .0) jsi (end .0) (x .returns) in
+      let all : (way : Way program (afterOf program (start + i)) v (retAt sheet i) (routineAt sheet i)) × Sound way
+      × (cameFrom way ≡ (start + i, marked (workAt sheet i) (retAt sheet i) (routineAt sheet i))) =
+      (comes-back (call .0) jsi (end .0) (x .returns), (call .1, this-pass, end .1, x .passes), refl) in
+      rw after-is at all
 
   pub back-asks : (p : ℕ) → p ≡ routineAt sheet i
-      → Listed program sheet queue tail × Forced program (start + (i + 3)) v (retAt sheet i) p × Roots program sheet (start + (i + 3)) (retAt sheet i) p
-  back-asks p e = (list, rw e forced-after, inr (rw e (root program sheet queue tail list i here)))
+      → Listed program sheet queue tail × Led program (start + (i + 3)) v (retAt sheet i) p × Roots program sheet (start + (i + 3)) (retAt sheet i) p
+  back-asks p e = (list, rw e (comes .0, comes .1), inr (rw e (root program sheet queue tail list i here)))
 
-  pub back-ends : (sheet₁ queue₁ : List ℕ) (p : ℕ) → p ≡ routineAt sheet i
-      → (n : Next) → Outcome program sheet queue tail sheet₁ queue₁ (markIn sheet₁ (start + (i + 3)) ≡ marked v (retAt sheet i) p) n
-      → Outcome program sheet queue tail sheet₁ queue₁ (Back program sheet₁ (start + i) v) n
-  back-ends sheet₁ queue₁ p e =
-      outcome-by program sheet queue tail sheet₁ queue₁
-      (markIn sheet₁ (start + (i + 3)) ≡ marked v (retAt sheet i) p) (Back program sheet₁ (start + i) v)
-      (λ k more m w r q f.
-      let d = same-parts (more .grown _ _ _ _ this-mark) f in
-      ap (markIn sheet₁) after-is ∙ rw (← d .1, ← d .2, ← e) m)
+  pub back-ends : (sheet₁ queue₁ : List ℕ) (p k : ℕ) → p ≡ routineAt sheet i
+      → Extended program sheet queue tail sheet₁ queue₁ k × (markIn sheet₁ (start + (i + 3)) ≡ marked v (retAt sheet i) p)
+      → Extended program sheet queue tail sheet₁ queue₁ k × Back program sheet₁ (start + i) v
+  back-ends sheet₁ queue₁ p k e o = (
+    o .0,
+    λ w r q f.
+        let d = same-parts (o .0 .grown _ _ _ _ this-mark) f in
+        ap (markIn sheet₁) after-is ∙ rw (← d .1, ← d .2, ← e) (o .1),
+  )
+
+  -- it is outside the program, or has another mark
+  from-marks : Marks sheet (start + from)
+  from-marks = (v, x .ret, targetOf program (start + i), x .here)
+
+  from-work : workAt sheet from ≡ v
+  from-work = same-parts (marked-parts program sheet queue tail list from from-marks) (x .here) .0
+
+  pub back-astray : (sheet₁ : List ℕ) (p : ℕ) → p ≡ routineAt sheet i
+      → (sheet₁ ≡ sheet) × (Within program (start + (i + 3)) → Marks sheet (start + (i + 3)) × (Has sheet (start + (i + 3) - start) v (retAt sheet i) p → ⊥))
+      → Told program sheet₁ Rule.Back i from
+  back-astray sheet₁ p e o =
+      let other = rw e at (o .1) in
+      let lost : Lost program sheet (placeAt sheet i) (backPlace sheet i from) =
+      record {
+        goes = rw from-work comes;
+        other = λ a.
+            let z : start + (start + (i + 3) - start) ≡ start + (i + 3) = omega arith in
+            let m = other a in
+            (stands-at program sheet queue tail list (start + (i + 3) - start) (rw z (m .0)), λ b. m .1 (sym (b .0) ∙ from-work, sym (b .1), sym (b .2)));
+      } in
+      rw (o .0)
+      (told program sheet queue tail list i here Rule.Back from (marked-inside program sheet queue tail list from from-marks) (back-inside, lost))
 
 -- ---- the calls that wait, one after the other
 
-module _ (program sheet queue : List ℕ) (tail : ℕ) (list : Listed program sheet queue tail) (before : List ℕ) (q n v : ℕ)
-    (chain : Chain program queue tail before q n) (x : Leaves program (markIn sheet) q v) where
+module _ (program sheet queue : List ℕ) (tail : ℕ) (list : Listed program sheet queue tail) (before : List ℕ) (q n from v : ℕ)
+    (chain : Chain program sheet queue tail before q n) (x : Left program sheet q from v) where
   pub release-starts : (j : ℕ) → j ≡ n → Extended program sheet queue tail sheet queue tail × Released program sheet queue q n v j
   release-starts j e = (
     unextended program sheet queue tail list,
@@ -89,12 +120,15 @@ module _ (program sheet queue : List ℕ) (tail : ℕ) (list : Listed program sh
 
     module _ (i : ℕ) (is-i : i ≡ getD queue₁ (j - 1) 0) where
       pub turn-asks : Listed program sheet₁ queue₁ most × Marks sheet₁ (start + i) × (byteAt program (start + i) ≡ 0x60)
-          × Leaves program (markIn sheet₁) (targetOf program (start + i)) v
+          × Passing program sheet₁ (start + i) × Left program sheet₁ (targetOf program (start + i)) from v
       turn-asks = (
         g .0 .list,
         rw is-i (g .0 .list .listed (j - 1) turn-low),
         rw is-i (this .0),
-        rw (is-i, this .1) (grown-leaves program sheet sheet₁ (g .0 .grown) q v x),
+        rw is-i
+            (more-passing program sheet queue tail list sheet₁ queue₁ most (g .0) (j - 1) (omega (arith, g .1 .low, chain .low))
+            (chain .passed (j - 1) (omega (arith, g .1 .low)))),
+        rw (is-i, this .1) (grown-left program sheet sheet₁ (g .0 .grown) q from v x),
       )
 
       pub turn-ends : (sheet₂ queue₂ : List ℕ) (m k : ℕ) → k ≡ getD before (j - 1) 0
@@ -114,6 +148,12 @@ module _ (program sheet queue : List ℕ) (tail : ℕ) (list : Listed program sh
 -- all of them
 pub all-released : (program sheet queue : List ℕ) (q n v j : ℕ) → j ≤ 0 → Released program sheet queue q n v j → AllBack program sheet queue q n v
 all-released program sheet queue q n v j z g k h c = g .done k (omega arith) h c
+
+-- what obeys the rules passes
+obeyed-passes : (program sheet : List ℕ) (at : ℕ) → Obeyed program sheet at → Passing program sheet at
+obeyed-passes program sheet at o w r q e =
+    let x = o w r q e in
+    record { placed = x .placed; inside = x .inside; fine = x .fine; work = x .work; ret = x .ret; workTop = x .workTop; retTop = x .retTop }
 
 -- ---- place `head` of the queue
 
@@ -151,23 +191,31 @@ module _ (program sheet queue : List ℕ) (tail head : ℕ) (routines before : L
     waiting₁ : Waiting program sheet₁ queue₁ head routines before
     waiting₁ = more-waiting program sheet queue tail list sheet₁ queue₁ tail₁ more head routines before (omega (arith, g .low)) (g .waiting)
 
+  -- it passes, with more marks too
+  passing : (work ret : ℕ) → Tested program sheet i work ret → (sheet₁ queue₁ : List ℕ) (tail₁ : ℕ) → Extended program sheet queue tail sheet₁ queue₁ tail₁
+      → Passing program sheet₁ (placed queue₁ head)
+  passing work ret t sheet₁ queue₁ tail₁ more v s p e =
+      let d = same-parts (mark₁ sheet₁ queue₁ tail₁ more) e in
+      rw (place₁ sheet₁ queue₁ tail₁ more, ← d .0, ← d .1) (passes program sheet queue tail list i here work ret t)
+
   pub leave-asks : getD program i 0 ≡ 0x6C → (work ret : ℕ) → Tested program sheet i work ret
       → Visit program sheet queue tail head routines before × (getD program (getD queue head 0) 0 ≡ 0x6C)
       × ((work : ℕ) × (ret : ℕ) × Tested program sheet (getD queue head 0) work ret)
   leave-asks e work ret t = (g, rw is-i at e, (work, ret, rw is-i at t))
 
   -- ---- neither a call nor a return
-  pub other-visited : (getD program i 0 ≡ 0x60 → ⊥) → (getD program i 0 ≡ 0x6C → ⊥) → (sheet₁ queue₁ : List ℕ)
-      → (n : Next) → Outcome program sheet queue tail sheet₁ queue₁ (Obeyed program sheet₁ (start + i)) n
-      → Outcome program sheet queue tail sheet₁ queue₁ (Visited program sheet₁ queue₁ head (placed queue head) routines before) n
-  other-visited jsi return sheet₁ queue₁ =
-      outcome-by program sheet queue tail sheet₁ queue₁ (Obeyed program sheet₁ (start + i))
-      (Visited program sheet₁ queue₁ head (placed queue head) routines before)
-      (λ k more o. (
-        rw place o,
-        next-other program sheet₁ queue₁ head routines before (waiting₁ sheet₁ queue₁ k more)
-            (λ e. jsi (sym (byte₁ sheet₁ queue₁ k more) ∙ e)) (λ e. return (sym (byte₁ sheet₁ queue₁ k more) ∙ e)),
-      ))
+  pub other-visited : (getD program i 0 ≡ 0x60 → ⊥) → (getD program i 0 ≡ 0x6C → ⊥) → (sheet₁ queue₁ : List ℕ) (k : ℕ)
+      → Extended program sheet queue tail sheet₁ queue₁ k × Obeyed program sheet₁ (start + i)
+      → Extended program sheet queue tail sheet₁ queue₁ k × Visited program sheet₁ queue₁ head (placed queue head) routines before
+  other-visited jsi return sheet₁ queue₁ k o = (
+    o .0,
+    (
+      rw place (o .1),
+      next-other program sheet₁ queue₁ head routines before (waiting₁ sheet₁ queue₁ k (o .0))
+          (λ w r q e. obeyed-passes program sheet₁ (placed queue₁ head) (rw (place₁ sheet₁ queue₁ k (o .0)) (o .1)) w r q e)
+          (λ e. jsi (sym (byte₁ sheet₁ queue₁ k (o .0)) ∙ e)) (λ e. return (sym (byte₁ sheet₁ queue₁ k (o .0)) ∙ e)),
+    ),
+  )
 
   -- ---- a return: its routine, the floor of that, and its place
   module _ (found : getD program (getD queue head 0) 0 ≡ 0x6C) (tested : (work : ℕ) × (ret : ℕ) × Tested program sheet (getD queue head 0) work ret)
@@ -178,22 +226,24 @@ module _ (program sheet queue : List ℕ) (tail head : ℕ) (routines before : L
     t : Tested program sheet i (tested .0) (tested .1)
     t = rw is-i (tested .2)
 
-    pub work-low : workAt sheet i ≤ 255
-    work-low = t .workLow
-
-    pub in-first : p ≡ start → Assignable program → ⊥
-    in-first e a = rules program sheet queue tail list i here a .inner (byte-is program i ∙ return) (sym p-is ∙ e)
-
     module _ (least : ℕ) (least-is : least ≡ retAt sheet (p - start)) where
       least-floor : least ≡ floor (markIn sheet) (routineAt sheet i)
       least-floor = least-is ∙ rw p-is (floor-is program sheet queue tail list i here)
 
-      pub off-floor : (least ≡ retAt sheet i → ⊥) → Assignable program → ⊥
-      off-floor h a =
-          let low = rules program sheet queue tail list i here a .low (byte-is program i ∙ return) in
-          h (least-floor ∙ sym (low ∙ every-floor program sheet queue tail list i here a))
+      pub off-floor : (least ≡ retAt sheet i → ⊥) → Told program sheet Rule.ReturnOffFloor i 0
+      off-floor h =
+          told-alone program sheet queue tail list i here Rule.ReturnOffFloor
+          (return, rooting program sheet queue tail list i here, λ e. h (least-is ∙ sym (e ∙ ap (λ a. retAt sheet (a - start)) (sym p-is))))
 
-      module _ (inner : p ≡ start → ⊥) (low : least ≡ retAt sheet i) (entry : ℕ) (entry-is : entry ≡ p - start) where
+      module _ (low : least ≡ retAt sheet i) (entry : ℕ) (entry-is : entry ≡ p - start) where
+        -- at the floor of 0100, which is 0, there are no bytes to take
+        inner : routineAt sheet i ≡ start → ⊥
+        unfolding decoding
+        inner e =
+            let f : floor (markIn sheet) start ≡ 0 = rw (list .first) in
+            let n : takenFrom returning (getD program i 0) ≡ 2 = rw return in
+            omega (arith, t .holdsRet, least-floor, ap (floor (markIn sheet)) e)
+
         entry-at : entry ≡ routineAt sheet i - start
         entry-at = entry-is ∙ ap (λ a. a - start) p-is
 
@@ -203,45 +253,75 @@ module _ (program sheet queue : List ℕ) (tail head : ℕ) (routines before : L
         pub entry-inside : entry < admitMost
         entry-inside = omega (arith, entry-at, root-place program sheet queue tail list i here, list .most)
 
-        leaves : Leaves program (markIn sheet) (routineAt sheet i) (workAt sheet i)
-        leaves = record { at = start + i; ret = retAt sheet i; here = parts; returns = byte-is program i ∙ return }
+        left : Left program sheet (routineAt sheet i) i (workAt sheet i)
+        left =
+            record {
+              ret = retAt sheet i;
+              here = parts;
+              returns = byte-is program i ∙ return;
+              passes = passes program sheet queue tail list i here (tested .0) (tested .1) t;
+            }
 
         obeys : (more : List ℕ) → ((b v s p : ℕ) → markIn sheet b ≡ marked v s p → markIn more b ≡ marked v s p)
             → Obeyed program more (placed queue head)
         obeys more grown =
             rw place
-            (return-obeyed program sheet queue tail list i here (tested .0) (tested .1) t return (sym low ∙ least-floor) (λ e. inner (p-is ∙ e)) more grown)
+            (return-obeyed program sheet queue tail list i here (tested .0) (tested .1) t return (sym low ∙ least-floor) inner more grown)
 
-        -- the routine has a return with this working depth
-        pub known : getD routines entry 0 ≡ returnedWith (workAt sheet i)
-            → Extended program sheet queue tail sheet queue tail × Visited program sheet queue head (placed queue head) routines before
-        known e =
-            let same = unextended program sheet queue tail list in (
-              same,
-              (
-                obeys sheet (λ b v s p f. f),
-                next-known program sheet queue head routines before (g .waiting) (workAt sheet i) (retAt sheet i) (routineAt sheet i)
-                    (mark₁ sheet queue tail same)
-                    (byte₁ sheet queue tail same ∙ return)
-                    (ap (λ a. getD routines a 0) (sym entry-at) ∙ e),
-              ),
-            )
+        -- the routine has a return
+        module _ (some : returnedAt 0 ≤ getD routines entry 0) (other : ℕ) (other-is : other ≡ getD routines entry 0 - returnedAt 0) where
+          stored : getD routines (routineAt sheet i - start) 0 ≡ returnedAt other
+          stored =
+              let m : getD routines entry 0 ≡ returnedAt other = omega arith in
+              ap (λ a. getD routines a 0) (sym entry-at) ∙ m
 
-        -- with another one
-        pub another : (getD routines entry 0 ≡ returnedWith (workAt sheet i) → ⊥) → returnedWith 0 ≤ getD routines entry 0 → Assignable program → ⊥
-        another h z =
-            let v = getD routines entry 0 - returnedWith 0 in
-            let m : getD routines entry 0 ≡ returnedWith v = omega arith in
-            let s : getD routines (routineAt sheet i - start) 0 ≡ returnedWith v = ap (λ a. getD routines a 0) (sym entry-at) ∙ m in
-            other-return program sheet queue tail list (routineAt sheet i) v (workAt sheet i)
-            (g .waiting .leaves (routineAt sheet i) v (root-low program sheet queue tail list i here) s)
-            leaves
-            (λ e. h (omega arith))
+          that : (v : ℕ) × Left program sheet (routineAt sheet i) other v
+          that = g .waiting .leaves (routineAt sheet i) other (root-low program sheet queue tail list i here) stored
+
+          that-marks : Marks sheet (start + other)
+          that-marks = (that .0, that .1 .ret, routineAt sheet i, that .1 .here)
+
+          that-parts : (workAt sheet other ≡ that .0) × (retAt sheet other ≡ that .1 .ret) × (routineAt sheet other ≡ routineAt sheet i)
+          that-parts = same-parts (marked-parts program sheet queue tail list other that-marks) (that .1 .here)
+
+          pub other-inside : other < length program
+          other-inside = marked-inside program sheet queue tail list other that-marks
+
+          pub other-record : sheetRecord * other + 7 < length sheet
+          other-record = record-inside program sheet queue tail list other that-marks
+
+          -- with this working depth
+          pub known : workAt sheet other ≡ workAt sheet i
+              → Extended program sheet queue tail sheet queue tail × Visited program sheet queue head (placed queue head) routines before
+          known e =
+              let same = unextended program sheet queue tail list in
+              let z : that .0 ≡ workAt sheet i = sym (that-parts .0) ∙ e in (
+                same,
+                (
+                  obeys sheet (λ b v s p f. f),
+                  next-known program sheet queue head routines before (g .waiting) (passing (tested .0) (tested .1) t sheet queue tail same)
+                      (workAt sheet i) (retAt sheet i) (routineAt sheet i)
+                      (mark₁ sheet queue tail same)
+                      (byte₁ sheet queue tail same ∙ return)
+                      (other, stored, rw z at (that .1)),
+                ),
+              )
+
+          -- with another one
+          pub another : (workAt sheet other ≡ workAt sheet i → ⊥) → Told program sheet Rule.ReturnsDiffer i other
+          another h =
+              told program sheet queue tail list i here Rule.ReturnsDiffer other other-inside (
+                return,
+                sym (byte-is program other) ∙ that .1 .returns,
+                stands-at program sheet queue tail list other that-marks,
+                sym (that-parts .2),
+                λ e. h (sym e),
+              )
 
         -- none yet
-        pub release-asks : getD routines entry 0 < returnedWith 0
-            → Listed program sheet queue tail × Chain program queue tail before (start + entry) (getD routines entry 0)
-            × Leaves program (markIn sheet) (start + entry) (workAt sheet i) × (entry < admitMost)
+        pub release-asks : getD routines entry 0 < returnedAt 0
+            → Listed program sheet queue tail × Chain program sheet queue tail before (start + entry) (getD routines entry 0)
+            × Left program sheet (start + entry) i (workAt sheet i) × (entry < admitMost)
         release-asks z =
             let l = root-low program sheet queue tail list i here in
             let none : getD routines (routineAt sheet i - start) 0 ≤ admitMost = omega (arith, ap (λ a. getD routines a 0) entry-at) in
@@ -250,15 +330,16 @@ module _ (program sheet queue : List ℕ) (tail head : ℕ) (routines before : L
               rw (routine-at, entry-at)
                   record {
                     low = omega (arith, lasts .low, g .low);
+                    passed = λ k h. g .waiting .passed k (omega (arith, lasts .low));
                     this = lasts .this;
                     befores = λ k h c. g .waiting .befores k (routineAt sheet i) (omega (arith, lasts .low)) l c none;
                   },
-              rw routine-at leaves,
+              rw routine-at left,
               entry-inside,
             )
 
-        pub first-visited : getD routines entry 0 < returnedWith 0 → (sheet₁ queue₁ routines₁ : List ℕ)
-            → routines₁ ≡ set routines entry (returnedWith (workAt sheet i))
+        pub first-visited : getD routines entry 0 < returnedAt 0 → (sheet₁ queue₁ routines₁ : List ℕ)
+            → routines₁ ≡ set routines entry (returnedAt i)
             → (n : Next) → Outcome program sheet queue tail sheet₁ queue₁ (AllBack program sheet₁ queue₁ (start + entry) (getD routines entry 0) (workAt sheet i)) n
             → Outcome program sheet queue tail sheet₁ queue₁ (Visited program sheet₁ queue₁ head (placed queue head) routines₁ before) n
         first-visited z sheet₁ queue₁ routines₁ l =
@@ -273,10 +354,10 @@ module _ (program sheet queue : List ℕ) (tail head : ℕ) (routines before : L
             let b₁ : AllBack program sheet₁ queue₁ q (getD routines (q - start) 0) (workAt sheet i) = rw (routine-at, entry-at) at b in (
               obeys sheet₁ (more .grown),
               rw (l, entry-at)
-                  (next-first program sheet₁ queue₁ head routines before waits (workAt sheet i) (retAt sheet i) q (returnedWith (workAt sheet i)) low
+                  (next-first program sheet₁ queue₁ head routines before waits (passing (tested .0) (tested .1) t sheet₁ queue₁ k more)
+                  (workAt sheet i) (retAt sheet i) q i low
                   (omega (arith, g .waiting .routinesSize, entry-inside, entry-at))
-                  refl
-                  (t .workLow)
+                  (place₁ sheet₁ queue₁ k more)
                   (mark₁ sheet₁ queue₁ k more)
                   (byte₁ sheet₁ queue₁ k more ∙ return)
                   none
@@ -301,8 +382,17 @@ module _ (program sheet queue : List ℕ) (tail head : ℕ) (routines before : L
           enters = sym target-is;
         }
 
-    pub call-asks : Listed program sheet queue tail × Forced program target work ret target × Roots program sheet target ret target
-    call-asks = (list, forced-call program sheet queue tail list i here work ret t jsi target target-is, inl (called, refl))
+    pub call-asks : Listed program sheet queue tail × Led program target work ret target × Roots program sheet target ret target
+    call-asks = (list, led-call program sheet queue tail list i here work ret t jsi target target-is, inl (called, refl))
+
+    -- the target is outside the program, or has another mark
+    pub call-astray : (sheet₁ : List ℕ)
+        → (sheet₁ ≡ sheet) × (Within program target → Marks sheet target × (Has sheet (target - start) work ret target → ⊥))
+        → Told program sheet₁ Rule.Target i 0
+    unfolding decoding
+    call-astray sheet₁ =
+        target-astray program sheet queue tail list i here work ret t sheet₁ target target target-is (target-is ∙ rw jsi) (rw jsi)
+        (called-among program sheet queue tail list i here work ret t jsi target target-is)
 
     -- the target is marked
     module _ (sheet₁ queue₁ : List ℕ) (tail₁ : ℕ)
@@ -333,7 +423,7 @@ module _ (program sheet queue : List ℕ) (tail head : ℕ) (routines before : L
             (more .grown target work ret target (o .1)))
 
         -- its routine has no return yet
-        pub no-return : getD routines entry 0 < returnedWith 0
+        pub no-return : getD routines entry 0 < returnedAt 0
             → Extended program sheet queue tail sheet₁ queue₁ tail₁
             × Visited program sheet₁ queue₁ head (placed queue head) (set routines entry (head + 1)) (set before head (getD routines entry 0))
         no-return z = (
@@ -341,7 +431,7 @@ module _ (program sheet queue : List ℕ) (tail head : ℕ) (routines before : L
           (
             obeys-call sheet₁ queue₁ tail₁ (unextended program sheet₁ queue₁ tail₁ (o .0 .list)),
             rw entry-is
-                (next-waits program sheet₁ queue₁ head routines before (waiting₁ sheet₁ queue₁ tail₁ (o .0)) target target-low
+                (next-waits program sheet₁ queue₁ head routines before (waiting₁ sheet₁ queue₁ tail₁ (o .0)) (passing work ret t sheet₁ queue₁ tail₁ (o .0)) target target-low
                 (omega (arith, g .waiting .routinesSize, target-inside))
                 (omega (arith, g .waiting .beforeSize, head-inside))
                 head-inside
@@ -351,23 +441,39 @@ module _ (program sheet queue : List ℕ) (tail head : ℕ) (routines before : L
         )
 
         -- it has some
-        module _ (some : returnedWith 0 ≤ getD routines entry 0) where
+        module _ (some : returnedAt 0 ≤ getD routines entry 0) (from : ℕ) (from-is : from ≡ getD routines entry 0 - returnedAt 0) where
+          stored-at : getD routines (target - start) 0 ≡ returnedAt from
+          stored-at = let m : getD routines entry 0 ≡ returnedAt from = omega arith in ap (λ a. getD routines a 0) (sym entry-is) ∙ m
+
+          returned : (v : ℕ) × Left program sheet target from v
+          returned = g .waiting .leaves target from target-low stored-at
+
+          returned-more : Left program sheet₁ target from (returned .0)
+          returned-more = grown-left program sheet sheet₁ (o .0 .grown) target from (returned .0) (returned .1)
+
+          from-marked : Marks sheet₁ (start + from)
+          from-marked = (returned .0, returned-more .ret, target, returned-more .here)
+
+          pub from-record : sheetRecord * from + 7 < length sheet₁
+          from-record = record-inside program sheet₁ queue₁ tail₁ (o .0 .list) from from-marked
+
+          pub from-inside : from < length program
+          from-inside = marked-inside program sheet₁ queue₁ tail₁ (o .0 .list) from from-marked
+
           abbrev v : ℕ
-          v = getD routines entry 0 - returnedWith 0
+          v = workAt sheet₁ from
 
-          known-at : getD routines (target - start) 0 ≡ returnedWith v
-          known-at = let m : getD routines entry 0 ≡ returnedWith v = omega arith in ap (λ a. getD routines a 0) (sym entry-is) ∙ m
-
-          pub depth-low : v ≤ 255
-          depth-low = omega (arith, g .waiting .small entry)
+          depth-is : returned .0 ≡ v
+          depth-is = sym (same-parts (marked-parts program sheet₁ queue₁ tail₁ (o .0 .list) from from-marked) (returned-more .here) .0)
 
           pub come-asks : Listed program sheet₁ queue₁ tail₁ × Marks sheet₁ (start + i) × (byteAt program (start + i) ≡ 0x60)
-              × Leaves program (markIn sheet₁) (targetOf program (start + i)) v
+              × Passing program sheet₁ (start + i) × Left program sheet₁ (targetOf program (start + i)) from v
           come-asks = (
             o .0 .list,
             (workAt sheet i, retAt sheet i, routineAt sheet i, o .0 .grown _ _ _ _ parts),
             byte-is program i ∙ jsi,
-            rw (← target-is) (grown-leaves program sheet sheet₁ (o .0 .grown) target v (g .waiting .leaves target v target-low known-at)),
+            rw (place₁ sheet₁ queue₁ tail₁ (o .0)) at (passing work ret t sheet₁ queue₁ tail₁ (o .0)),
+            rw (← target-is) (rw depth-is at returned-more),
           )
 
           pub come-visited : (sheet₂ queue₂ : List ℕ)
@@ -380,7 +486,9 @@ module _ (program sheet queue : List ℕ) (tail head : ℕ) (routines before : L
               (λ k more c.
               let both = extended-again (o .0) more in (
                 obeys-call sheet₂ queue₂ k more,
-                next-back program sheet₂ queue₂ head routines before (waiting₁ sheet₂ queue₂ k both) target v (calls sheet₂ queue₂ k both) known-at
+                next-back program sheet₂ queue₂ head routines before (waiting₁ sheet₂ queue₂ k both) (passing work ret t sheet₂ queue₂ k both) target v
+                    (calls sheet₂ queue₂ k both)
+                    (from, stored-at, grown-left program sheet₁ sheet₂ (more .grown) target from v (rw depth-is at returned-more))
                     (rw (place₁ sheet₂ queue₂ k both) c),
               ))
               n

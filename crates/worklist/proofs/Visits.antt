@@ -8,17 +8,20 @@ use native.Mathlib.Omega.{arith}
 use lib.Dec.{ltb}
 use lib.ListN.{length, getD}
 use borrow.Author.Tests.{ltb-true, ltb-false}
-use Rattle.model.specs.Bytes.{Every}
+use Rattle.model.specs.Bytes.{Every, Among}
+use Rattle.model.specs.Bytes.Among.{here as first-of, there as later}
 use Rattle.model.specs.Machine.{start}
 use Rattle.model.specs.Instruction.{keepMode, returning, takenFrom, pushedOn, lengthOf}
-use Rattle.model.specs.Admission.{Mark, admitMost, byteAt, allowed, markAfter, afterOf, targetOf, successors, GoesOn, floor, Rules, Assignment, Assignable, sheetRecord, markIn}
+use Rattle.model.specs.Admission.{admitMost, byteAt, Within, allowed, markAfter, afterOf, targetOf, successors, Way, GoesOn, floor, sheetRecord, markIn}
 use Rattle.model.specs.Admission.Mark.{marked}
+use Rattle.model.specs.Admission.Way.{go}
+use Rattle.model.specs.Reasons.{Passes, Sound, cameFrom}
 use Rattle.model.proofs.Computing.{decoding}
 use Rattle.model.proofs.Exactness.{T-of}
 use Rattle.rules.proofs.Instructions.{byte-is, after-brk, after-jmi, after-jci, after-jsi, after-return, after-other}
-use Rattle.worklist.specs.declared.Next.{Next}
-use Rattle.worklist.specs.Worklist.{workAt, retAt, routineAt, Forced, Marks, Obeyed, Rooted, Listed, Tested, Above, Extended, Outcome}
-use Rattle.worklist.proofs.Worklist.{same-parts, grown-led, grown-floor, goes-on, marked-parts, root, root-low, floor-inside, floor-is, unextended, extended-again, outcome-by}
+use Rattle.worklist.specs.declared.Rule.{Rule}
+use Rattle.worklist.specs.Worklist.{workAt, retAt, routineAt, Has, Led, Marks, Obeyed, Rooted, Listed, Tested, Above, Extended, placeAt, targetPlace, Lost, Rooting, Fails, Told}
+use Rattle.worklist.proofs.Worklist.{same-parts, grown-led, grown-floor, goes-on, marked-parts, marked-inside, stands-at, sheet-length, root, root-low, root-place, floor-inside, floor-is, unextended, extended-again}
 
 module _ (program sheet queue : List ℕ) (tail : ℕ) (list : Listed program sheet queue tail) (i : ℕ) (here : Marks sheet (start + i)) where
   -- the place, its byte, its depths and its routine
@@ -45,15 +48,33 @@ module _ (program sheet queue : List ℕ) (tail : ℕ) (list : Listed program sh
 
   -- ---- a rule fails
 
-  pub rules : (a : Assignable program) → Rules program (a .0) at w r q
-  rules a = a .1 .rules at w r q (list .forced at w r q parts (a .0) (a .1) .1)
+  pub told : (rule : Rule) (j : ℕ) → j < length program → Fails program sheet rule i j → Told program sheet rule i j
+  told rule j h f =
+      record {
+        most = list .most;
+        size = sheet-length program sheet queue tail list;
+        here = marked-inside program sheet queue tail list i here;
+        there = h;
+        stands = stands-at program sheet queue tail list i here;
+        fails = f;
+      }
 
-  pub fails : ((marks : ℕ → Mark) (p : ℕ) → Rules program marks at w r p → ⊥) → Assignable program → ⊥
-  fails f a = f (a .0) q (rules a)
+  -- of no other return
+  pub told-alone : (rule : Rule) → Fails program sheet rule i 0 → Told program sheet rule i 0
+  told-alone rule f = told rule 0 (omega (arith, marked-inside program sheet queue tail list i here)) f
 
-  -- the floor of its routine is the same in every assignment
-  pub every-floor : (a : Assignable program) → floor (a .0) q ≡ floor (markIn sheet) q
-  every-floor a = rw (rooted .entered, list .forced q (rooted .work) (rooted .floor) q (rooted .entered) (a .0) (a .1) .1)
+  -- its routine, by the routine's own address
+  pub rooting : Rooting program sheet i
+  rooting =
+      let e : start + (q - start) ≡ q = omega (arith, root-low program sheet queue tail list i here) in
+      let f : markIn sheet (start + (q - start)) ≡ marked (rooted .work) (rooted .floor) q = rw e (rooted .entered) in
+      let m : Marks sheet (start + (q - start)) = (rooted .work, rooted .floor, q, f) in
+      record {
+        low = root-low program sheet queue tail list i here;
+        inside = root-place program sheet queue tail list i here;
+        stands = stands-at program sheet queue tail list (q - start) m;
+        itself = same-parts (marked-parts program sheet queue tail list (q - start) m) f .2;
+      }
 
   -- where the floor of its routine stands, and that the return depth is not below it
   pub floor-asks : (p : ℕ) → p ≡ q → (start ≤ p) × (sheetRecord * (p - start) + 2 < length sheet) × (retAt sheet (p - start) ≤ r)
@@ -69,10 +90,10 @@ module _ (program sheet queue : List ℕ) (tail : ℕ) (list : Listed program sh
     least-is : retAt sheet (p - start) ≡ floor (markIn sheet) q
     least-is = ap (λ a. retAt sheet (a - start)) p-is ∙ floor-is program sheet queue tail list i here
 
-    pub too-low : (byte ≡ 0x6C → ⊥) → b ≡ true → Assignable program → ⊥
-    too-low other h a =
-        let l = rules a .above (λ f. other (sym (byte-is program i) ∙ f)) in
-        omega (arith, least-is, every-floor a, rw (byte-is program i) at l, ltb-true r (retAt sheet (p - start) + takenFrom returning byte) (sym b-is ∙ h))
+    pub too-low : (byte ≡ 0x6C → ⊥) → b ≡ true → Told program sheet Rule.BelowFloor i 0
+    too-low other h =
+        told-alone Rule.BelowFloor
+        (other, rooting, rw p-is at (ltb-true r (retAt sheet (p - start) + takenFrom returning byte) (sym b-is ∙ h)))
 
     pub is-above : b ≡ false → Above program sheet i
     is-above h = omega (arith, least-is, ltb-false r (retAt sheet (p - start) + takenFrom returning byte) (sym b-is ∙ h))
@@ -145,15 +166,63 @@ module _ (program sheet queue : List ℕ) (tail : ℕ) (list : Listed program sh
     calls : byte ≡ 0x60 → successors program at w r q ≡ ((targetOf program at, marked work ret (targetOf program at)) ∷ [])
     calls e = rw (← mark-is) (after-jsi program at w r q (byte-is program i ∙ e))
 
-    -- each of them has its mark in every assignment
-    on : (marks : ℕ → Mark) → Assignment program marks → Every (GoesOn program marks) (successors program at w r q)
-    on marks a = rules (marks, a) .on
+    -- it passes
+    pub passes : Passes program at w r
+    passes =
+        record {
+          placed = omega arith;
+          inside = rw (byte-is program i) (omega (arith, t .whole));
+          fine = rw (byte-is program i) (T-of (allowed byte) (t .fine));
+          work = rw (byte-is program i) (t .holdsWork);
+          ret = rw (byte-is program i) (t .holdsRet);
+          workTop = rw (byte-is program i) (omega (arith, t .works, t .workTop));
+          retTop = rw (byte-is program i) (omega (arith, t .rets, t .retTop));
+        }
 
-    pub forced-call : byte ≡ 0x60 → (a : ℕ) → a ≡ targetOf program at → Forced program a work ret a
-    forced-call e a f marks m = rw f (rw (calls e) at (on marks m) .0)
+    -- so each of them is on a sound way from it
+    on : (to v s p : ℕ) → Among (to, marked v s p) (successors program at w r q)
+        → (way : Way program to v s p) × Sound way × (cameFrom way ≡ (at, marked w r q))
+    on to v s p m = let l = list .ways at w r q parts in (go (l .0) m, (l .1, passes), refl)
 
-    pub forced-jump : byte ≡ 0x40 → (a : ℕ) → a ≡ targetOf program at → (p : ℕ) → p ≡ q → Forced program a work ret p
-    forced-jump e a f p g marks m = rw (f, g) (rw (jumps e) at (on marks m) .0)
+    led : (to v s p : ℕ) → Among (to, marked v s p) (successors program at w r q) → Led program to v s p
+    led to v s p m = let l = on to v s p m in (l .0, l .1)
+
+    -- and one that is astray is where it goes on
+    lost : (to v s p : ℕ) → Among (to, marked v s p) (successors program at w r q)
+        → (Within program to → Marks sheet to × (Has sheet (to - start) v s p → ⊥))
+        → Lost program sheet (placeAt sheet i) (record { at = to; work = v; ret = s; routine = p })
+    lost to v s p m other =
+        record {
+          goes = on to v s p m;
+          other = λ x.
+              let e : start + (to - start) ≡ to = omega (arith, x .0) in
+              let o = other x in
+              (stands-at program sheet queue tail list (to - start) (rw e (o .0)), λ a. o .1 (sym (a .0), sym (a .1), sym (a .2)));
+        }
+
+    -- the target of a call, of a jump
+    pub called-among : byte ≡ 0x60 → (a : ℕ) → a ≡ targetOf program at → Among (a, marked work ret a) (successors program at w r q)
+    called-among e a f = rw (f, calls e) first-of
+
+    pub jumped-among : byte ≡ 0x40 → (a : ℕ) → a ≡ targetOf program at → (p : ℕ) → p ≡ q → Among (a, marked work ret p) (successors program at w r q)
+    jumped-among e a f p g = rw (f, g, jumps e) first-of
+
+    pub led-call : byte ≡ 0x60 → (a : ℕ) → a ≡ targetOf program at → Led program a work ret a
+    led-call e a f = led a work ret a (called-among e a f)
+
+    pub led-jump : byte ≡ 0x40 → (a : ℕ) → a ≡ targetOf program at → (p : ℕ) → p ≡ q → Led program a work ret p
+    led-jump e a f p g = led a work ret p (jumped-among e a f p g)
+
+    pub target-astray : (sheet₁ : List ℕ) (a p : ℕ) → a ≡ targetOf program at → p ≡ targetPlace program sheet i .routine → lengthOf byte ≡ 3
+        → Among (a, marked work ret p) (successors program at w r q)
+        → (sheet₁ ≡ sheet) × (Within program a → Marks sheet a × (Has sheet (a - start) work ret p → ⊥)) → Told program sheet₁ Rule.Target i 0
+    target-astray sheet₁ a p f g l m o =
+        rw (o .0) (told-alone Rule.Target (passes, l, rw (f, g, t .works, t .rets) at (lost a work ret p m (o .1))))
+
+    pub jump-astray : byte ≡ 0x40 → (sheet₁ : List ℕ) (a : ℕ) → a ≡ targetOf program at → (p : ℕ) → p ≡ q
+        → (sheet₁ ≡ sheet) × (Within program a → Marks sheet a × (Has sheet (a - start) work ret p → ⊥)) → Told program sheet₁ Rule.Target i 0
+    unfolding decoding
+    jump-astray e sheet₁ a f p g = target-astray sheet₁ a p f (g ∙ rw e) (rw e) (jumped-among e a f p g)
 
     -- a 6C at the floor
     pub return-obeyed : byte ≡ 0x6C → r ≡ floor (markIn sheet) q → (q ≡ start → ⊥)
@@ -203,15 +272,28 @@ module _ (program sheet queue : List ℕ) (tail : ℕ) (list : Listed program sh
             rw (p-is, ← mark-is, ← next-is)
             (after-other program at w r q (other _ brk) (other _ jci) (other _ jmi) (other _ not-jsi) (other _ not-return))
 
-        pub forced-branch : byte ≡ 0x20 → (a : ℕ) → a ≡ targetOf program at → Forced program a work ret p
-        forced-branch e a f marks m = rw f (rw (branches e) at (on marks m) .1 .0)
+        pub branched-among : byte ≡ 0x20 → (a : ℕ) → a ≡ targetOf program at → Among (a, marked work ret p) (successors program at w r q)
+        branched-among e a f = rw (f, branches e) (later first-of)
 
-        pub forced-next : (byte ≡ 0x00 → ⊥) → (byte ≡ 0x40 → ⊥) → Forced program (start + after) work ret p
-        forced-next brk jmi marks m = by (ℕ-discrete byte 0x20)
+        next-among : (byte ≡ 0x00 → ⊥) → (byte ≡ 0x40 → ⊥) → Among (start + after, marked work ret p) (successors program at w r q)
+        next-among brk jmi = by (ℕ-discrete byte 0x20)
           where
-            by : Dec (byte ≡ 0x20) → GoesOn program marks (start + after, marked work ret p)
-            by (yes e) = rw (branches e) at (on marks m) .0
-            by (no e) = rw (goes brk jmi e) at (on marks m) .0
+            by : Dec (byte ≡ 0x20) → Among (start + after, marked work ret p) (successors program at w r q)
+            by (yes e) = rw (branches e) first-of
+            by (no e) = rw (goes brk jmi e) first-of
+
+        pub led-branch : byte ≡ 0x20 → (a : ℕ) → a ≡ targetOf program at → Led program a work ret p
+        led-branch e a f = led a work ret p (branched-among e a f)
+
+        pub led-next : (byte ≡ 0x00 → ⊥) → (byte ≡ 0x40 → ⊥) → Led program (start + after) work ret p
+        led-next brk jmi = led (start + after) work ret p (next-among brk jmi)
+
+        pub next-astray : (byte ≡ 0x00 → ⊥) → (byte ≡ 0x40 → ⊥) → (sheet₁ : List ℕ)
+            → (sheet₁ ≡ sheet) × (Within program (start + after) → Marks sheet (start + after) × (Has sheet (start + after - start) work ret p → ⊥))
+            → Told program sheet₁ Rule.After i 0
+        next-astray brk jmi sheet₁ o =
+            rw (o .0)
+            (told-alone Rule.After (passes, rw (a-is, p-is, t .works, t .rets) at (lost (start + after) work ret p (next-among brk jmi) (o .1))))
 
         other-obeyed : (more : List ℕ) → ((b v s p : ℕ) → markIn sheet b ≡ marked v s p → markIn more b ≡ marked v s p)
             → Every (GoesOn program (markIn more)) (successors program at w r q) → Obeyed program more at
@@ -221,34 +303,74 @@ module _ (program sheet queue : List ℕ) (tail : ℕ) (list : Listed program sh
         brk-ends e = (unextended program sheet queue tail list, other-obeyed sheet (λ b v s p f. f) (rw (ends e) tt))
 
         -- one successor
-        one : (sheet₁ queue₁ : List ℕ) (a : ℕ) → successors program at w r q ≡ ((a, marked work ret p) ∷ [])
-            → (n : Next) → Outcome program sheet queue tail sheet₁ queue₁ (markIn sheet₁ a ≡ marked work ret p) n
-            → Outcome program sheet queue tail sheet₁ queue₁ (Obeyed program sheet₁ at) n
-        one sheet₁ queue₁ a e =
-            outcome-by program sheet queue tail sheet₁ queue₁ (markIn sheet₁ a ≡ marked work ret p) (Obeyed program sheet₁ at)
-            (λ k more m. other-obeyed sheet₁ (more .grown) (rw e (goes-on program sheet₁ queue₁ k (more .list) a work ret p m, tt)))
+        one : (sheet₁ queue₁ : List ℕ) (k a : ℕ) → successors program at w r q ≡ ((a, marked work ret p) ∷ [])
+            → Extended program sheet queue tail sheet₁ queue₁ k × (markIn sheet₁ a ≡ marked work ret p)
+            → Extended program sheet queue tail sheet₁ queue₁ k × Obeyed program sheet₁ at
+        one sheet₁ queue₁ k a e o =
+            (o .0, other-obeyed sheet₁ (o .0 .grown) (rw e (goes-on program sheet₁ queue₁ k (o .0 .list) a work ret p (o .1), tt)))
 
-        pub jump-ends : (sheet₁ queue₁ : List ℕ) → byte ≡ 0x40 → (a : ℕ) → a ≡ targetOf program at
-            → (n : Next) → Outcome program sheet queue tail sheet₁ queue₁ (markIn sheet₁ a ≡ marked work ret p) n
-            → Outcome program sheet queue tail sheet₁ queue₁ (Obeyed program sheet₁ at) n
-        jump-ends sheet₁ queue₁ e a f = one sheet₁ queue₁ a (rw (f, p-is) (jumps e))
+        pub jump-ends : (sheet₁ queue₁ : List ℕ) (k : ℕ) → byte ≡ 0x40 → (a : ℕ) → a ≡ targetOf program at
+            → Extended program sheet queue tail sheet₁ queue₁ k × (markIn sheet₁ a ≡ marked work ret p)
+            → Extended program sheet queue tail sheet₁ queue₁ k × Obeyed program sheet₁ at
+        jump-ends sheet₁ queue₁ k e a f = one sheet₁ queue₁ k a (rw (f, p-is) (jumps e))
 
-        pub next-ends : (sheet₁ queue₁ : List ℕ) → (byte ≡ 0x00 → ⊥) → (byte ≡ 0x40 → ⊥) → (byte ≡ 0x20 → ⊥)
-            → (n : Next) → Outcome program sheet queue tail sheet₁ queue₁ (markIn sheet₁ (start + after) ≡ marked work ret p) n
-            → Outcome program sheet queue tail sheet₁ queue₁ (Obeyed program sheet₁ at) n
-        next-ends sheet₁ queue₁ brk jmi jci = one sheet₁ queue₁ (start + after) (goes brk jmi jci)
+        pub next-ends : (sheet₁ queue₁ : List ℕ) (k : ℕ) → (byte ≡ 0x00 → ⊥) → (byte ≡ 0x40 → ⊥) → (byte ≡ 0x20 → ⊥)
+            → Extended program sheet queue tail sheet₁ queue₁ k × (markIn sheet₁ (start + after) ≡ marked work ret p)
+            → Extended program sheet queue tail sheet₁ queue₁ k × Obeyed program sheet₁ at
+        next-ends sheet₁ queue₁ k brk jmi jci = one sheet₁ queue₁ k (start + after) (goes brk jmi jci)
 
         -- two of them, one after the other
         pub branch-ends : (sheet₁ queue₁ : List ℕ) (k : ℕ) → byte ≡ 0x20
             → Extended program sheet queue tail sheet₁ queue₁ k × (markIn sheet₁ (start + after) ≡ marked work ret p)
-            → (sheet₂ queue₂ : List ℕ) (b : ℕ) → b ≡ targetOf program at
-            → (n : Next) → Outcome program sheet₁ queue₁ k sheet₂ queue₂ (markIn sheet₂ b ≡ marked work ret p) n
-            → Outcome program sheet queue tail sheet₂ queue₂ (Obeyed program sheet₂ at) n
-        branch-ends sheet₁ queue₁ k e o sheet₂ queue₂ b g Next.Refuted x = x
-        branch-ends sheet₁ queue₁ k e o sheet₂ queue₂ b g (Next.Queued m) x =
+            → (sheet₂ queue₂ : List ℕ) (b m : ℕ) → b ≡ targetOf program at
+            → Extended program sheet₁ queue₁ k sheet₂ queue₂ m × (markIn sheet₂ b ≡ marked work ret p)
+            → Extended program sheet queue tail sheet₂ queue₂ m × Obeyed program sheet₂ at
+        branch-ends sheet₁ queue₁ k e o sheet₂ queue₂ b m g x =
             let both = extended-again (o .0) (x .0) in
             let there = goes-on program sheet₂ queue₂ m (x .0 .list) in (
               both,
               other-obeyed sheet₂ (both .grown)
                   (rw (branches e, ← g) (there (start + after) work ret p (x .0 .grown (start + after) work ret p (o .1)), (there b work ret p (x .1), tt))),
             )
+
+-- ---- with more marks
+
+module _ (program sheet queue : List ℕ) (tail : ℕ) (list : Listed program sheet queue tail) (i : ℕ) (here : Marks sheet (start + i))
+    (sheet₁ queue₁ : List ℕ) (tail₁ : ℕ) (more : Extended program sheet queue tail sheet₁ queue₁ tail₁) where
+  pub here-more : Marks sheet₁ (start + i)
+  here-more = (here .0, here .1, here .2, more .grown _ _ _ _ (here .3))
+
+  -- the record of a marked place stays
+  pub same-record : Has sheet₁ i (workAt sheet i) (retAt sheet i) (routineAt sheet i)
+  same-record =
+      same-parts (marked-parts program sheet₁ queue₁ tail₁ (more .list) i here-more)
+      (more .grown _ _ _ _ (marked-parts program sheet queue tail list i here))
+
+  tested-more : (work ret : ℕ) → Tested program sheet i work ret → Tested program sheet₁ i work ret
+  tested-more work ret t =
+      record {
+        workLow = rw (same-record .0) (t .workLow);
+        retLow = rw (same-record .1) (t .retLow);
+        fine = t .fine;
+        whole = t .whole;
+        holdsWork = rw (same-record .0) (t .holdsWork);
+        works = rw (same-record .0) (t .works);
+        workTop = t .workTop;
+        holdsRet = rw (same-record .1) (t .holdsRet);
+        rets = rw (same-record .1) (t .rets);
+        retTop = t .retTop;
+      }
+
+  -- the second of two successors is astray, after the first one got its mark
+  pub branch-astray : (work ret : ℕ) (t : Tested program sheet i work ret) (above : Above program sheet i) (after p : ℕ)
+      → after ≡ i + lengthOf (getD program i 0) → p ≡ routineAt sheet i → (getD program i 0 ≡ 0x60 → ⊥) → (getD program i 0 ≡ 0x6C → ⊥)
+      → getD program i 0 ≡ 0x20 → (sheet₂ : List ℕ) (b : ℕ) → b ≡ targetOf program (start + i)
+      → (sheet₂ ≡ sheet₁) × (Within program b → Marks sheet₁ b × (Has sheet₁ (b - start) work ret p → ⊥)) → Told program sheet₂ Rule.Target i 0
+  unfolding decoding
+  branch-astray work ret t above after p a-is p-is jsi return e sheet₂ b g o =
+      let d = same-record in
+      target-astray program sheet₁ queue₁ tail₁ (more .list) i here-more work ret (tested-more work ret t) sheet₂ b p g
+      (p-is ∙ rw (e, d .2))
+      (rw e)
+      (rw (d .0, d .1, d .2) (branched-among program sheet queue tail list i here work ret t above after p a-is p-is jsi return e b g))
+      o

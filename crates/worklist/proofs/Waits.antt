@@ -1,5 +1,5 @@
 -- Laws of calls and returns in the worklist. Assumes nothing.
-use mathlib.Core.Path.{_≡_, refl, sym, ap, _∙_}
+use mathlib.Core.Path.{_≡_, sym, ap, _∙_}
 use mathlib.Core.List.{List}
 use Prim.Native.Nat.{ℕ, suc, _+_, _-_, _≤_, _<_}
 use native.Mathlib.Decide.{ℕ-discrete, decLt}
@@ -7,10 +7,10 @@ use native.Mathlib.Omega.{arith}
 use lib.ListN.{length, getD, set, length-set}
 use lib.Seq.{getD-set-same, getD-set-other}
 use Rattle.model.specs.Machine.{start}
-use Rattle.model.specs.Admission.{admitMost, byteAt, afterOf, targetOf, Called, Leaves, Assignable, markIn}
+use Rattle.model.specs.Admission.{admitMost, byteAt, targetOf, markIn}
 use Rattle.model.specs.Admission.Mark.{marked}
-use Rattle.worklist.specs.Worklist.{Forced, Listed, Extended, placed, Calls, Last, Back, AllBack, returnedWith, Waiting}
-use Rattle.worklist.proofs.Worklist.{same-parts}
+use Rattle.worklist.specs.Worklist.{Passing, Listed, Extended, placed, Calls, Last, Back, AllBack, Left, returnedAt, Returned, Waiting}
+use Rattle.worklist.proofs.Worklist.{same-parts, grown-left}
 
 -- ---- one more place was visited
 
@@ -23,7 +23,18 @@ last-next program queue q n j other l =
       none = λ k a b c. elim (ℕ-discrete k n) [ yes e ↦ other (rw e at c) | no e ↦ l .none k a (omega arith) c ];
     }
 
-module _ (program sheet queue : List ℕ) (head : ℕ) (routines before : List ℕ) (g : Waiting program sheet queue head routines before) where
+-- two returns that `routines` has for the same routine are one
+pub same-return : (program sheet routines : List ℕ) (q v w : ℕ) → Returned program sheet routines q v → Returned program sheet routines q w → v ≡ w
+same-return program sheet routines q v w (j, e, x) (k, f, y) =
+    let i : j ≡ k = omega (arith, e, f) in
+    same-parts (rw i at (x .here)) (y .here) .0
+
+module _ (program sheet queue : List ℕ) (head : ℕ) (routines before : List ℕ) (g : Waiting program sheet queue head routines before)
+    (pass : Passing program sheet (placed queue head)) where
+  -- this place passes too
+  passed-next : (k : ℕ) → k < head + 1 → Passing program sheet (placed queue k)
+  passed-next k h = elim (ℕ-discrete k head) [ yes i ↦ rw i pass | no i ↦ g .passed k (omega arith) ]
+
   -- neither a call nor a return
   pub next-other : (byteAt program (placed queue head) ≡ 0x60 → ⊥) → (byteAt program (placed queue head) ≡ 0x6C → ⊥)
       → Waiting program sheet queue (head + 1) routines before
@@ -31,7 +42,7 @@ module _ (program sheet queue : List ℕ) (head : ℕ) (routines before : List �
       record {
         routinesSize = g .routinesSize;
         beforeSize = g .beforeSize;
-        small = g .small;
+        passed = passed-next;
         returned = λ k v r q h e f. elim (ℕ-discrete k head) [ yes i ↦ absurd (notReturn (rw i at f)) | no i ↦ g .returned k v r q (omega arith) e f ];
         leaves = g .leaves;
         back = λ k q v h l c e. elim (ℕ-discrete k head) [ yes i ↦ absurd (notCall (rw i at (c .0))) | no i ↦ g .back k q v (omega arith) l c e ];
@@ -41,12 +52,12 @@ module _ (program sheet queue : List ℕ) (head : ℕ) (routines before : List �
 
   -- a return whose routine has one already, with the same working depth
   pub next-known : (w r q : ℕ) → markIn sheet (placed queue head) ≡ marked w r q → byteAt program (placed queue head) ≡ 0x6C
-      → getD routines (q - start) 0 ≡ returnedWith w → Waiting program sheet queue (head + 1) routines before
+      → Returned program sheet routines q w → Waiting program sheet queue (head + 1) routines before
   next-known w r q here is-6c known =
       record {
         routinesSize = g .routinesSize;
         beforeSize = g .beforeSize;
-        small = g .small;
+        passed = passed-next;
         returned = λ k v s p h e f. elim (ℕ-discrete k head) [
           | yes i ↦ let d = same-parts here (rw i at e) in rw (← d .0, ← d .2) known
           | no i ↦ g .returned k v s p (omega arith) e f
@@ -61,34 +72,29 @@ module _ (program sheet queue : List ℕ) (head : ℕ) (routines before : List �
       not-call e = let z : _≡_ {A = ℕ} 0x60 0x6C = sym e ∙ is-6c in omega arith
 
   -- the first return of its routine, each call that was visited going on
-  pub next-first : (w r q d : ℕ) → start ≤ q → q - start < length routines → d ≡ returnedWith w → w ≤ 255
+  pub next-first : (w r q j : ℕ) → start ≤ q → q - start < length routines → placed queue head ≡ start + j
       → markIn sheet (placed queue head) ≡ marked w r q → byteAt program (placed queue head) ≡ 0x6C
       → getD routines (q - start) 0 ≤ admitMost
       → AllBack program sheet queue q head w
-      → Waiting program sheet queue (head + 1) (set routines (q - start) d) before
-  next-first w r q d low space e-d w-low here is-6c free done =
+      → Waiting program sheet queue (head + 1) (set routines (q - start) (returnedAt j)) before
+  next-first w r q j low space e-j here is-6c free done =
       record {
         routinesSize = simp length-set (g .routinesSize);
         beforeSize = g .beforeSize;
-        small = λ j. elim (ℕ-discrete j (q - start)) [
-          | yes i ↦ rw (i, new) (omega arith)
-          | no i ↦ rw (getD-set-other routines (q - start) j d 0 i) (g .small j)
-        ];
+        passed = passed-next;
         returned = λ k v s p h e f. elim (ℕ-discrete k head) [
-          | yes i ↦ let z = same-parts here (rw i at e) in rw (← z .0, ← z .2) new
-          | no i ↦
-              let o = g .returned k v s p (omega arith) e f in
-              old p (λ j. let z = rw (ap (λ n. getD routines n 0) j) at o in omega arith) ∙ o
+          | yes i ↦ let z = same-parts here (rw i at e) in rw (← z .0, ← z .2) (j, new, left)
+          | no i ↦ keeps p v (g .returned k v s p (omega arith) e f)
         ];
-        leaves = λ p v l e. elim (ℕ-discrete p q) [
-          | yes i ↦ let z : returnedWith w ≡ returnedWith v = sym new ∙ rw i at e in let j : w ≡ v = omega arith in rw (i, ← j) record { at = placed queue head; ret = r; here = here; returns = is-6c }
-          | no i ↦ g .leaves p v l (sym (old p (λ j. i (omega arith))) ∙ e)
+        leaves = λ p k l e. elim (ℕ-discrete p q) [
+          | yes i ↦ let z : returnedAt j ≡ returnedAt k = sym new ∙ rw i at e in let m : j ≡ k = omega arith in rw (i, ← m) (w, left)
+          | no i ↦ g .leaves p k l (sym (old p (λ m. i (omega arith))) ∙ e)
         ];
         back = λ k p v h l c e. elim (ℕ-discrete k head) [
           | yes i ↦ absurd (not-call (rw i at (c .0)))
           | no i ↦ elim (ℕ-discrete p q) [
-            | yes j ↦ let z : returnedWith w ≡ returnedWith v = sym new ∙ rw j at e in let m : w ≡ v = omega arith in rw m at (done k (omega arith) (rw j at c))
-            | no j ↦ g .back k p v (omega arith) l c (sym (old p (λ m. j (omega arith))) ∙ e)
+            | yes m ↦ let z : v ≡ w = same-return program sheet (set routines (q - start) (returnedAt j)) q v w (rw m at e) (j, new, left) in rw z (done k (omega arith) (rw m at c))
+            | no m ↦ g .back k p v (omega arith) l c (e .0, sym (old p (λ n. m (omega arith))) ∙ e .1, e .2)
           ]
         ];
         lasts = λ p l m.
@@ -103,13 +109,20 @@ module _ (program sheet queue : List ℕ) (head : ℕ) (routines before : List �
       not-call : byteAt program (placed queue head) ≡ 0x60 → ⊥
       not-call e = let z : _≡_ {A = ℕ} 0x60 0x6C = sym e ∙ is-6c in omega arith
 
-      new : getD (set routines (q - start) d) (q - start) 0 ≡ returnedWith w
-      new = getD-set-same routines (q - start) d 0 space ∙ e-d
+      new : getD (set routines (q - start) (returnedAt j)) (q - start) 0 ≡ returnedAt j
+      new = getD-set-same routines (q - start) (returnedAt j) 0 space
 
-      old : (p : ℕ) → (p - start ≡ q - start → ⊥) → getD (set routines (q - start) d) (p - start) 0 ≡ getD routines (p - start) 0
-      old p h = getD-set-other routines (q - start) (p - start) d 0 h
+      left : Left program sheet q j w
+      left = record { ret = r; here = rw e-j at here; returns = rw e-j at is-6c; passes = rw e-j at (pass w r q here) }
 
-      still : (p : ℕ) → getD (set routines (q - start) d) (p - start) 0 ≤ admitMost → p - start ≡ q - start → ⊥
+      old : (p : ℕ) → (p - start ≡ q - start → ⊥) → getD (set routines (q - start) (returnedAt j)) (p - start) 0 ≡ getD routines (p - start) 0
+      old p h = getD-set-other routines (q - start) (p - start) (returnedAt j) 0 h
+
+      -- a routine with a return is another one
+      keeps : (p v : ℕ) → Returned program sheet routines p v → Returned program sheet (set routines (q - start) (returnedAt j)) p v
+      keeps p v (k, e, x) = (k, old p (λ m. let z = rw (ap (λ n. getD routines n 0) m) at e in omega arith) ∙ e, x)
+
+      still : (p : ℕ) → getD (set routines (q - start) (returnedAt j)) (p - start) 0 ≤ admitMost → p - start ≡ q - start → ⊥
       still p m e = omega (arith, new, rw e at m)
 
   -- a call of t, which has no return yet
@@ -120,18 +133,15 @@ module _ (program sheet queue : List ℕ) (head : ℕ) (routines before : List �
       record {
         routinesSize = simp length-set (g .routinesSize);
         beforeSize = simp length-set (g .beforeSize);
-        small = λ j. elim (ℕ-discrete j (t - start)) [
-          | yes i ↦ rw (i, new) (omega arith)
-          | no i ↦ rw (getD-set-other routines (t - start) j (head + 1) 0 i) (g .small j)
-        ];
+        passed = passed-next;
         returned = λ k v r q h e f. elim (ℕ-discrete k head) [
           | yes i ↦ absurd (not-return (rw i at f))
-          | no i ↦ let o = g .returned k v r q (omega arith) e f in old q (other q v o) ∙ o
+          | no i ↦ let o = g .returned k v r q (omega arith) e f in (o .0, old q (other q (o .0) (o .1)) ∙ o .1, o .2)
         ];
-        leaves = λ q v l e. g .leaves q v l (sym (old q (fresh q v e)) ∙ e);
+        leaves = λ q j l e. g .leaves q j l (sym (old q (fresh q j e)) ∙ e);
         back = λ k q v h l d e. elim (ℕ-discrete k head) [
-          | yes i ↦ absurd (fresh q v e (ap (λ a. a - start) (sym (rw i at (d .1)) ∙ c .1)))
-          | no i ↦ g .back k q v (omega arith) l d (sym (old q (fresh q v e)) ∙ e)
+          | yes i ↦ absurd (fresh q (e .0) (e .1) (ap (λ a. a - start) (sym (rw i at (d .1)) ∙ c .1)))
+          | no i ↦ g .back k q v (omega arith) l d (e .0, sym (old q (fresh q (e .0) (e .1))) ∙ e .1, e .2)
         ];
         lasts = λ q l m. elim (ℕ-discrete q t) [
           | yes i ↦ rw (i, new) record { low = omega arith; this = λ k e. let j : head ≡ k = omega arith in rw (← j) c; none = λ k a b d. omega arith }
@@ -155,30 +165,30 @@ module _ (program sheet queue : List ℕ) (head : ℕ) (routines before : List �
       old q h = getD-set-other routines (t - start) (q - start) (head + 1) 0 h
 
       -- a routine with a return is another one
-      other : (q v : ℕ) → getD routines (q - start) 0 ≡ returnedWith v → q - start ≡ t - start → ⊥
-      other q v e j = omega (arith, rw j at e)
+      other : (q j : ℕ) → getD routines (q - start) 0 ≡ returnedAt j → q - start ≡ t - start → ⊥
+      other q j e i = omega (arith, rw i at e)
 
-      fresh : (q v : ℕ) → getD (set routines (t - start) (head + 1)) (q - start) 0 ≡ returnedWith v → q - start ≡ t - start → ⊥
-      fresh q v e j = omega (arith, new, rw j at e)
+      fresh : (q j : ℕ) → getD (set routines (t - start) (head + 1)) (q - start) 0 ≡ returnedAt j → q - start ≡ t - start → ⊥
+      fresh q j e i = omega (arith, new, rw i at e)
 
       unreturned : (q : ℕ) → getD (set routines (t - start) (head + 1)) (q - start) 0 ≤ admitMost → getD routines (q - start) 0 ≤ admitMost
       unreturned q m = elim (ℕ-discrete (q - start) (t - start)) [ yes j ↦ rw j none | no j ↦ rw (old q j) at m ]
 
   -- a call of t, which has returns with the working depth v
-  pub next-back : (t v : ℕ) → Calls program queue t head → getD routines (t - start) 0 ≡ returnedWith v → Back program sheet (placed queue head) v
+  pub next-back : (t v : ℕ) → Calls program queue t head → Returned program sheet routines t v → Back program sheet (placed queue head) v
       → Waiting program sheet queue (head + 1) routines before
   next-back t v c known b =
       record {
         routinesSize = g .routinesSize;
         beforeSize = g .beforeSize;
-        small = g .small;
+        passed = passed-next;
         returned = λ k v r q h e f. elim (ℕ-discrete k head) [
           | yes i ↦ absurd (not-return (rw i at f))
           | no i ↦ g .returned k v r q (omega arith) e f
         ];
         leaves = g .leaves;
         back = λ k q w h l d e. elim (ℕ-discrete k head) [
-          | yes i ↦ let z = same q (rw i at (d .1)) e in let j : v ≡ w = omega arith in rw (i, ← j) b
+          | yes i ↦ let m : t ≡ q = sym (c .1) ∙ rw i at (d .1) in let z : v ≡ w = same-return program sheet routines q v w (rw m at known) e in rw (i, ← z) b
           | no i ↦ g .back k q w (omega arith) l d e
         ];
         lasts = λ q l m. last-next program queue q head (getD routines (q - start) 0) (λ d. waits q (d .1) m) (g .lasts q l m);
@@ -191,11 +201,8 @@ module _ (program sheet queue : List ℕ) (head : ℕ) (routines before : List �
       not-return : byteAt program (placed queue head) ≡ 0x6C → ⊥
       not-return e = let z : _≡_ {A = ℕ} 0x60 0x6C = sym (c .0) ∙ e in omega arith
 
-      same : (q : ℕ) → targetOf program (placed queue head) ≡ q → {n : ℕ} → getD routines (q - start) 0 ≡ n → returnedWith v ≡ n
-      same q d e = sym known ∙ ap (λ a. getD routines (a - start) 0) (sym (c .1) ∙ d) ∙ e
-
       waits : (q : ℕ) → targetOf program (placed queue head) ≡ q → getD routines (q - start) 0 ≤ admitMost → ⊥
-      waits q d m = omega (arith, same q d refl)
+      waits q d m = let e : t ≡ q = sym (c .1) ∙ d in omega (arith, rw e at (known .1))
 
 -- ---- the calls that wait, one after the other
 
@@ -240,6 +247,9 @@ module _ (program sheet queue : List ℕ) (tail : ℕ) (list : Listed program sh
   pub more-back : (k v : ℕ) → k < tail → Back program sheet (placed queue k) v → Back program sheet₁ (placed queue₁ k) v
   more-back k v h b w r q e = rw (same-place k h) (more .grown _ v r q (b w r q (old-mark k w r q h e)))
 
+  pub more-passing : (k : ℕ) → k < tail → Passing program sheet (placed queue k) → Passing program sheet₁ (placed queue₁ k)
+  more-passing k h f w r q e = rw (same-place k h) (f w r q (old-mark k w r q h e))
+
   pub more-last : (q n j : ℕ) → n ≤ tail → Last program queue q n j → Last program queue₁ q n j
   more-last q n j h l =
       record {
@@ -254,15 +264,22 @@ module _ (program sheet queue : List ℕ) (tail : ℕ) (list : Listed program sh
       record {
         routinesSize = g .routinesSize;
         beforeSize = g .beforeSize;
-        small = g .small;
-        returned = λ k v r q l e f. g .returned k v r q l (old-mark k v r q (omega arith) e) (rw (same-place k (omega arith)) at f);
-        leaves = λ q v l e.
-            let x = g .leaves q v l e in
-            record { at = x .at; ret = x .ret; here = more .grown (x .at) v (x .ret) q (x .here); returns = x .returns };
-        back = λ k q v l a c e. more-back k v (omega arith) (g .back k q v l a (same-calls q k (omega arith) c) e);
+        passed = λ k l. more-passing k (omega arith) (g .passed k l);
+        returned = λ k v r q l e f. more-returned q v (g .returned k v r q l (old-mark k v r q (omega arith) e) (rw (same-place k (omega arith)) at f));
+        leaves = λ q j l e. let x = g .leaves q j l e in (x .0, grown-left program sheet sheet₁ (more .grown) q j (x .0) (x .1));
+        back = λ k q v l a c e. more-back k v (omega arith) (g .back k q v l a (same-calls q k (omega arith) c) (less-returned q v a e));
         lasts = λ q l m. more-last q head _ h (g .lasts q l m);
         befores = λ k q l a c m. more-last q k _ (omega arith) (g .befores k q l a (same-calls q k (omega arith) c) m);
       }
+    where
+      more-returned : (q v : ℕ) → Returned program sheet routines q v → Returned program sheet₁ routines q v
+      more-returned q v (j, e, x) = (j, e, grown-left program sheet sheet₁ (more .grown) q j v x)
+
+      less-returned : (q v : ℕ) → start ≤ q → Returned program sheet₁ routines q v → Returned program sheet routines q v
+      less-returned q v l (j, e, x) =
+          let y = g .leaves q j l e in
+          let d = same-parts (more .grown _ _ _ _ (y .1 .here)) (x .here) in
+          (j, e, rw (d .0) at (y .1))
 
   pub more-released : (q head v j : ℕ) → head ≤ tail → Released program sheet queue q head v j → Released program sheet₁ queue₁ q head v j
   more-released q head v j h g =
@@ -271,29 +288,3 @@ module _ (program sheet queue : List ℕ) (tail : ℕ) (list : Listed program sh
         this = λ k e. calls-same q k (omega (arith, g .low)) (g .this k e);
         done = λ k a b c. more-back k v (omega arith) (g .done k a b (same-calls q k (omega arith) c));
       }
-
--- ---- what every assignment has
-
-module _ (program sheet queue : List ℕ) (tail : ℕ) (list : Listed program sheet queue tail) where
-  -- a call that the sheet marks, and a return of its routine: the address after the call
-  pub forced-back : (q v : ℕ) (c : Called program (markIn sheet) q) → Leaves program (markIn sheet) q v
-      → Forced program (afterOf program (c .at)) v (c .ret) (c .routine)
-  forced-back q v c x marks a =
-      a .back q v
-      record {
-        at = c .at;
-        work = c .work;
-        ret = c .ret;
-        routine = c .routine;
-        here = list .forced (c .at) (c .work) (c .ret) (c .routine) (c .here) marks a .1;
-        calls = c .calls;
-        enters = c .enters;
-      }
-      record { at = x .at; ret = x .ret; here = list .forced (x .at) v (x .ret) q (x .here) marks a .1; returns = x .returns }
-
-  -- two returns of a routine with different working depths
-  pub other-return : (q v w : ℕ) → Leaves program (markIn sheet) q v → Leaves program (markIn sheet) q w → (v ≡ w → ⊥) → Assignable program → ⊥
-  other-return q v w x y no-way a =
-      no-way (a .1 .one q v w
-      record { at = x .at; ret = x .ret; here = list .forced (x .at) v (x .ret) q (x .here) (a .0) (a .1) .1; returns = x .returns }
-      record { at = y .at; ret = y .ret; here = list .forced (y .at) w (y .ret) q (y .here) (a .0) (a .1) .1; returns = y .returns })

@@ -13,14 +13,17 @@ use lib.Seq.{getD-set-same, getD-set-other}
 use lib.Dec.{ltb}
 use borrow.Author.Tests.{ltb-false, le-ltb}
 use Rattle.model.specs.Machine.{start}
-use Rattle.model.specs.Admission.{Mark, admitMost, GoesOn, Called, Leaves, retOf, floor, Assignable, markAt, sheetRecord, recordOf, sheetOf, markIn}
+use Rattle.model.specs.Admission.{Mark, admitMost, Within, GoesOn, Called, retOf, floor, markAt, sheetRecord, recordOf, sheetOf, markIn}
 use Rattle.model.specs.Admission.Mark.{unmarked, marked}
+use Rattle.model.specs.Reasons.{Stands}
 use Rattle.model.proofs.Reached.{count-most}
 use Rattle.model.proofs.Rules.{not-both, marked-within}
 use Rattle.model.proofs.Sheet.{mark-in, length-sheet}
 use Rattle.worklist.specs.declared.Next.{Next}
+use Rattle.worklist.specs.declared.Reached.{Reached}
 use Rattle.worklist.proofs.Next.{the-type}
-use Rattle.worklist.specs.Worklist.{workAt, retAt, routineAt, Agrees, Forced, Marks, Rooted, Roots, Listed, Extended, Outcome}
+use Rattle.worklist.proofs.Reached.{the-type as reached-type}
+use Rattle.worklist.specs.Worklist.{workAt, retAt, routineAt, Has, Agrees, Led, Marks, Rooted, Roots, Listed, Extended, Marking, placeAt, Outcome, Left}
 use Rattle.worklist.proofs.Sheets.{byte-of-record, mark-unmarked, mark-marked, withMark, sheet-set, count-set, count-room}
 
 -- a mark has one pair of depths and one routine
@@ -96,8 +99,8 @@ module _ (program sheet after : List ℕ) (grown : (at w r q : ℕ) → markIn s
   pub grown-floor : (q r : ℕ) → Rooted program sheet q r → floor (markIn after) q ≡ floor (markIn sheet) q
   grown-floor q r o = rw (o .entered, grown q (o .work) (o .floor) q (o .entered))
 
-  pub grown-leaves : (q v : ℕ) → Leaves program (markIn sheet) q v → Leaves program (markIn after) q v
-  grown-leaves q v x = record { at = x .at; ret = x .ret; here = grown (x .at) v (x .ret) q (x .here); returns = x .returns }
+  pub grown-left : (q j v : ℕ) → Left program sheet q j v → Left program after q j v
+  grown-left q j v x = record { ret = x .ret; here = grown (start + j) v (x .ret) q (x .here); returns = x .returns; passes = x .passes }
 
 -- ---- an address that is reached
 
@@ -149,6 +152,12 @@ module _ (program sheet queue : List ℕ) (tail : ℕ) (list : Listed program sh
   marked-parts i m = parts-are i (marked-inside i m) (λ e.
       not-both (sym (sym (m .3) ∙ marks-are (start + i) ∙ place-mark (list .marks) i ∙ free i (marked-inside i m) e)))
 
+  -- and a sound way leads to it
+  pub stands-at : (i : ℕ) → Marks sheet (start + i) → Stands program (placeAt sheet i)
+  stands-at i m =
+      let l = list .ways (start + i) (workAt sheet i) (retAt sheet i) (routineAt sheet i) (marked-parts i m) in
+      (l .0, l .1, (omega arith, omega (arith, marked-inside i m)))
+
   -- the record of a marked place lies in the sheet
   pub record-inside : (i : ℕ) → Marks sheet (start + i) → sheetRecord * i + 7 < length sheet
   record-inside i m = omega (arith, marked-inside i m, sheet-length)
@@ -186,26 +195,16 @@ module _ (program sheet queue : List ℕ) (tail : ℕ) (list : Listed program sh
   pub unextended : Extended program sheet queue tail sheet queue tail
   unextended = record { list = list; grown = λ at w r q e. e; kept = λ k h. refl; longer = omega arith }
 
-  module _ (at w r q : ℕ) (forced : Forced program at w r q) where
-    -- it lies below 0100, or past the program
-    pub below-start : at < start → Assignable program → ⊥
-    below-start h a = omega (arith, forced (a .0) (a .1) .0 .0)
-
-    pub past-end : start ≤ at → length program ≤ at - start → Assignable program → ⊥
-    past-end l h a = omega (arith, forced (a .0) (a .1) .0 .1)
-
+  module _ (at w r q : ℕ) (led : Led program at w r q) where
     module _ (above : start ≤ at) (inside : at - start < length program) where
       here : start + (at - start) ≡ at
       here = omega arith
 
       -- it has another mark
       pub other-parts : (getD sheet (sheetRecord * (at - start)) 0 ≡ 0 → ⊥) → (b : Bool) → b ≡ false → Agrees sheet (at - start) w r q b
-          → Assignable program → ⊥
-      other-parts g true b h a = absurd (true≢false b)
-      other-parts g false b h a =
-          let e = list .forced at _ _ _ (rw here at (parts-are (at - start) inside g)) (a .0) (a .1) .1 in
-          let d = same-parts e (forced (a .0) (a .1) .1) in
-          h (d .0, d .1, d .2)
+          → Marks sheet at × (Has sheet (at - start) w r q → ⊥)
+      other-parts g true b h = absurd (true≢false b)
+      other-parts g false b h = ((_, _, _, rw here at (parts-are (at - start) inside g)), h)
 
       -- it has this one
       pub these-parts : (getD sheet (sheetRecord * (at - start)) 0 ≡ 0 → ⊥) → (b : Bool) → b ≡ true → Agrees sheet (at - start) w r q b
@@ -286,9 +285,9 @@ module _ (program sheet queue : List ℕ) (tail : ℕ) (list : Listed program sh
                 written = wrote;
                 counted = omega (arith, list .counted, count-set (list .marks) (at - start) w r q within unset);
                 first = stays start 0 0 start (list .first);
-                forced = λ b v s p e. elim (cases b v s p e) [
-                  | inl f ↦ list .forced b v s p f
-                  | inr f ↦ rw (f .0, ← f .1, ← f .2, ← f .3) forced
+                ways = λ b v s p e. elim (cases b v s p e) [
+                  | inl f ↦ list .ways b v s p f
+                  | inr f ↦ rw (f .0, ← f .1, ← f .2, ← f .3) led
                 ];
                 rooted = λ b v s p e. elim (cases b v s p e) [
                   | inl f ↦ grown-rooted program sheet sheetAfter stays p s (list .rooted b v s p f)
@@ -331,21 +330,33 @@ pub went-on : (program sheet queue : List ℕ) (tail : ℕ) (sheet₁ queue₁ :
     → Outcome program sheet queue tail sheet₁ queue₁ P n → Extended program sheet queue tail sheet₁ queue₁ k × P
 went-on program sheet queue tail sheet₁ queue₁ P n k e o = rw e at o
 
-pub refuted : (program sheet queue : List ℕ) (tail : ℕ) (sheet₁ queue₁ : List ℕ) (P : Type 0) (n : Next)
-    → OneOf (0 ∷ []) (tagOf the-type n) → Outcome program sheet queue tail sheet₁ queue₁ P n → Assignable program → ⊥
-refuted program sheet queue tail sheet₁ queue₁ P Next.Refuted e o = o
-refuted program sheet queue tail sheet₁ queue₁ P (Next.Queued k) e o = absurd (miss (0 ∷ []) 1 tt e)
+-- a rule that fails fails from wherever the worklist came
+pub refuted : (program sheet queue : List ℕ) (tail : ℕ) (sheet₀ queue₀ : List ℕ) (tail₀ : ℕ) (sheet₁ queue₁ : List ℕ) (P Q : Type 0) (n : Next)
+    → OneOf (0 ∷ []) (tagOf the-type n) → Outcome program sheet₀ queue₀ tail₀ sheet₁ queue₁ P n → Outcome program sheet queue tail sheet₁ queue₁ Q n
+refuted program sheet queue tail sheet₀ queue₀ tail₀ sheet₁ queue₁ P Q (Next.Refuted rule i j) e o = o
+refuted program sheet queue tail sheet₀ queue₀ tail₀ sheet₁ queue₁ P Q (Next.Queued k) e o = absurd (miss (0 ∷ []) 1 tt e)
+
+-- the two answers of `reach`
+pub is-marked : (program sheet queue : List ℕ) (tail : ℕ) (sheet₁ queue₁ : List ℕ) (at w r q : ℕ) (n : Reached) (k : ℕ) → n ≡ Reached.Queued k
+    → Marking program sheet queue tail sheet₁ queue₁ at w r q n → Extended program sheet queue tail sheet₁ queue₁ k × (markIn sheet₁ at ≡ marked w r q)
+is-marked program sheet queue tail sheet₁ queue₁ at w r q n k e o = rw e at o
+
+pub is-astray : (program sheet queue : List ℕ) (tail : ℕ) (sheet₁ queue₁ : List ℕ) (at w r q : ℕ) (n : Reached) → OneOf (0 ∷ []) (tagOf reached-type n)
+    → Marking program sheet queue tail sheet₁ queue₁ at w r q n
+    → (sheet₁ ≡ sheet) × (Within program at → Marks sheet at × (Has sheet (at - start) w r q → ⊥))
+is-astray program sheet queue tail sheet₁ queue₁ at w r q Reached.Astray e o = o
+is-astray program sheet queue tail sheet₁ queue₁ at w r q (Reached.Queued k) e o = absurd (miss (0 ∷ []) 1 tt e)
 
 -- what an outcome says, from what another one says
 pub outcome-by : (program sheet queue : List ℕ) (tail : ℕ) (sheet₁ queue₁ : List ℕ) (P Q : Type 0)
     → ((k : ℕ) → Extended program sheet queue tail sheet₁ queue₁ k → P → Q) → (n : Next)
     → Outcome program sheet queue tail sheet₁ queue₁ P n → Outcome program sheet queue tail sheet₁ queue₁ Q n
-outcome-by program sheet queue tail sheet₁ queue₁ P Q f Next.Refuted o = o
+outcome-by program sheet queue tail sheet₁ queue₁ P Q f (Next.Refuted rule i j) o = o
 outcome-by program sheet queue tail sheet₁ queue₁ P Q f (Next.Queued k) o = (o .0, f k (o .0) (o .1))
 
 -- after one extension
 pub outcome-after : (program sheet queue : List ℕ) (tail : ℕ) (sheet₁ queue₁ : List ℕ) (tail₁ : ℕ) (sheet₂ queue₂ : List ℕ) (P : Type 0)
     → Extended program sheet queue tail sheet₁ queue₁ tail₁ → (n : Next)
     → Outcome program sheet₁ queue₁ tail₁ sheet₂ queue₂ P n → Outcome program sheet queue tail sheet₂ queue₂ P n
-outcome-after program sheet queue tail sheet₁ queue₁ tail₁ sheet₂ queue₂ P a Next.Refuted o = o
+outcome-after program sheet queue tail sheet₁ queue₁ tail₁ sheet₂ queue₂ P a (Next.Refuted rule i j) o = o
 outcome-after program sheet queue tail sheet₁ queue₁ tail₁ sheet₂ queue₂ P a (Next.Queued k) o = (extended-again a (o .0), o .1)

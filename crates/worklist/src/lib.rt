@@ -7,9 +7,8 @@ ghost use Prim.Native.Nat.{ℕ, _+_, _*_, _-_, _/_, _%_, _≤_, _<_};
 ghost use lib.ListN.{length, getD, set};
 ghost use Rattle.model.specs.Machine.{start};
 ghost use Rattle.model.specs.Instruction.{lengthOf};
-ghost use Rattle.model.specs.Admission.{admitMost, byteAt, targetOf, Leaves, sheetRecord, markIn};
-ghost use Rattle.model.specs.Admission.Mark.{marked};
-ghost use Rattle.worklist.specs.Worklist.{routineAt, Agrees, Forced, Marks, Obeyed, Roots, Listed, Tested, Above, Outcome, placed, Back, AllBack, Chain, Visit, Visited};
+ghost use Rattle.model.specs.Admission.{admitMost, byteAt, targetOf, sheetRecord};
+ghost use Rattle.worklist.specs.Worklist.{routineAt, Agrees, Led, Marks, Passing, Obeyed, Roots, Listed, Tested, Above, Marking, Outcome, placed, Back, AllBack, Left, Chain, Visit, Visited};
 
 // "The sheet record becomes 8 bytes: the old four", which are mark, working depth, return depth, the program byte, "the routine (two
 // bytes), two zeros".
@@ -25,13 +24,37 @@ const JCI: u8 = 0x20;
 const JMI: u8 = 0x40;
 
 // What `routines` has for the routine at a place of the program: the number, from 1, of the place in the queue with the routine's last
-// call, or 0, if there is none; once a return of it was visited, RETURNED and the working depth there.
+// call, or 0, if there is none; once a return of it was visited, RETURNED and the place of the first one.
 const RETURNED: u16 = 4097;
 
-// How the worklist goes on: a rule fails where every assignment has a mark, so that there is none; or with this many
-// addresses in the queue.
+// The rules, by what is found where one fails: the instruction is not allowed; it is cut off; a stack holds too few bytes for it, or too
+// many after it; it takes return bytes below the floor; the address after it, its target or, for a call, the address where its routine
+// returns to is outside the program or has another mark; a return is not at the floor, or another one has another working depth.
+pub enum Rule {
+    Forbidden,
+    Cut,
+    FewWorking,
+    ManyWorking,
+    FewReturn,
+    ManyReturn,
+    BelowFloor,
+    After,
+    Target,
+    Back,
+    ReturnOffFloor,
+    ReturnsDiffer,
+}
+
+// How the worklist goes on: this rule fails at a place of the program, so that there is no assignment (the second number is the place of
+// a return of which the rule speaks too, or 0); or with this many addresses in the queue.
 pub enum Next {
-    Refuted,
+    Refuted(Rule, usize, usize),
+    Queued(usize),
+}
+
+// An address that is reached is outside the program, or has another mark; or the queue has this many addresses now.
+enum Reached {
+    Astray,
     Queued(usize),
 }
 
@@ -107,59 +130,54 @@ fn reach(
     work: u8,
     ret: u8,
     routine: u16,
-) -> Next
-    requires { ⌜ Listed (now program) (now sheet) (now queue) tail × Forced (now program) at work ret routine × Roots (now program) (now sheet) at ret routine ⌝ }
-    ensures { λ n. ⌜ Outcome (now (program .entry)) (now (sheet .entry)) (now (queue .entry)) tail (now (sheet .exit)) (now (queue .exit))
-        (markIn (now (sheet .exit)) at ≡ marked work ret routine) n ⌝ }
+) -> Reached
+    requires { ⌜ Listed (now program) (now sheet) (now queue) tail × Led (now program) at work ret routine × Roots (now program) (now sheet) at ret routine ⌝ }
+    ensures { λ n. ⌜ Marking (now (program .entry)) (now (sheet .entry)) (now (queue .entry)) tail (now (sheet .exit)) (now (queue .exit)) at work ret routine n ⌝ }
 {
     if at < START {
-        return Next::Refuted;
+        return Reached::Astray;
     }
     let i = (at - START) as usize;
     if program.len() <= i {
-        return Next::Refuted;
+        return Reached::Astray;
     }
     if sheet[SHEET_RECORD * i] == 0 {
         mark(sheet, i, work, ret, routine);
         queue[tail] = at - START;
-        return Next::Queued(tail + 1);
+        return Reached::Queued(tail + 1);
     }
     if agrees(sheet, i, work, ret, routine) {
-        return Next::Queued(tail);
+        return Reached::Queued(tail);
     }
-    Next::Refuted
+    Reached::Astray
 }
 
-// "The address after the call" at place i: its routine has a return with this working depth.
+// "The address after the call" at place i: its routine has a return at place `from`, with this working depth.
 fn come_back(
     program: &[u8],
     sheet: &mut [u8],
     queue: &mut [u16; 4096],
     tail: usize,
     i: usize,
+    from: usize,
     work: u8,
 ) -> Next
     requires { ⌜ Listed (now program) (now sheet) (now queue) tail × Marks (now sheet) (start + i) × (byteAt (now program) (start + i) ≡ 0x60)
-        × Leaves (now program) (markIn (now sheet)) (targetOf (now program) (start + i)) work ⌝ }
+        × Passing (now program) (now sheet) (start + i) × Left (now program) (now sheet) (targetOf (now program) (start + i)) from work ⌝ }
     ensures { λ n. ⌜ Outcome (now (program .entry)) (now (sheet .entry)) (now (queue .entry)) tail (now (sheet .exit)) (now (queue .exit))
         (Back (now (program .entry)) (now (sheet .exit)) (start + i) work) n ⌝ }
 {
     let ret = sheet[SHEET_RECORD * i + 2];
     let routine = routine_of(sheet, i);
-    reach(
-        program,
-        sheet,
-        queue,
-        tail,
-        START + (i + 3) as u16,
-        work,
-        ret,
-        routine,
-    )
+    let after = START + (i + 3) as u16;
+    let Reached::Queued(more) = reach(program, sheet, queue, tail, after, work, ret, routine) else {
+        return Next::Refuted(Rule::Back, i, from);
+    };
+    Next::Queued(more)
 }
 
-// The first return of the routine at place `entry` of the program: each call of it that was visited goes on, the last one first.
-// `before` has, for a place of the queue with a call, the number of the place with the call before it, as `routines` has the last.
+// The first return of the routine at place `entry` of the program stands at place `from`, with this working depth: each call of the
+// routine that was visited goes on, the last one first. `before` has, for a place of the queue with a call, the number of the place with the call before it, as `routines` has the last.
 fn release(
     program: &[u8],
     sheet: &mut [u8],
@@ -168,10 +186,11 @@ fn release(
     routines: &[u16; 4096],
     before: &[u16; 4096],
     entry: usize,
+    from: usize,
     work: u8,
 ) -> Next
-    requires { ⌜ Listed (now program) (now sheet) (now queue) tail × Chain (now program) (now queue) tail (now before) (start + entry) (getD (now routines) entry 0)
-        × Leaves (now program) (markIn (now sheet)) (start + entry) work × (entry < admitMost) ⌝ }
+    requires { ⌜ Listed (now program) (now sheet) (now queue) tail × Chain (now program) (now sheet) (now queue) tail (now before) (start + entry) (getD (now routines) entry 0)
+        × Left (now program) (now sheet) (start + entry) from work × (entry < admitMost) ⌝ }
     ensures { λ n. ⌜ Outcome (now (program .entry)) (now (sheet .entry)) (now (queue .entry)) tail (now (sheet .exit)) (now (queue .exit))
         (AllBack (now (program .entry)) (now (sheet .exit)) (now (queue .exit)) (start + entry) (getD (now (routines .entry)) entry 0) work) n ⌝ }
 {
@@ -180,8 +199,9 @@ fn release(
     while 0 < j {
         let k = j - 1;
         let i = wide(queue[k]);
-        let Next::Queued(more) = come_back(program, sheet, queue, most, i, work) else {
-            return Next::Refuted;
+        let next = come_back(program, sheet, queue, most, i, from, work);
+        let Next::Queued(more) = next else {
+            return next;
         };
         most = more;
         j = wide(before[k]);
@@ -207,27 +227,33 @@ pub fn leave(
 {
     let i = wide(queue[head]);
     let routine = routine_of(sheet, i);
-    // "never in routine 0100"
-    if routine == START {
-        return Next::Refuted;
-    }
+    let entry = wide(routine - START);
     // "it stands only at the floor"
     if floor_of(sheet, routine) != sheet[SHEET_RECORD * i + 2] {
-        return Next::Refuted;
+        return Next::Refuted(Rule::ReturnOffFloor, i, 0);
     }
     // "and leaves with one working depth for the whole routine"
-    let entry = wide(routine - START);
     let work = sheet[SHEET_RECORD * i + 1];
-    let depth = RETURNED + work as u16;
     let known = routines[entry];
-    if known == depth {
-        return Next::Queued(tail);
-    }
     if RETURNED <= known {
-        return Next::Refuted;
+        let other = wide(known - RETURNED);
+        if sheet[SHEET_RECORD * other + 1] == work {
+            return Next::Queued(tail);
+        }
+        return Next::Refuted(Rule::ReturnsDiffer, i, other);
     }
-    let next = release(program, sheet, queue, tail, routines, before, entry, work);
-    routines[entry] = depth;
+    let next = release(
+        program,
+        sheet,
+        queue,
+        tail,
+        routines,
+        before,
+        entry,
+        i,
+        work,
+    );
+    routines[entry] = RETURNED + i as u16;
     next
 }
 
@@ -250,9 +276,8 @@ pub fn call(
         (Visited (now (program .entry)) (now (sheet .exit)) (now (queue .exit)) head (placed (now (queue .entry)) head) (now (routines .exit)) (now (before .exit))) n ⌝ }
 {
     let target = jump_target(program, i);
-    let next = reach(program, sheet, queue, tail, target, work, ret, target);
-    let Next::Queued(more) = next else {
-        return Next::Refuted;
+    let Reached::Queued(more) = reach(program, sheet, queue, tail, target, work, ret, target) else {
+        return Next::Refuted(Rule::Target, i, 0);
     };
     let entry = wide(target - START);
     let known = routines[entry];
@@ -261,7 +286,9 @@ pub fn call(
         routines[entry] = (head + 1) as u16;
         return Next::Queued(more);
     }
-    come_back(program, sheet, queue, more, i, (known - RETURNED) as u8)
+    let from = wide(known - RETURNED);
+    let back = sheet[SHEET_RECORD * from + 1];
+    come_back(program, sheet, queue, more, i, from, back)
 }
 
 // "each address where it may go on (after it; for JMI its target; for JCI both)" from place i, with these depths and in this
@@ -288,41 +315,24 @@ pub fn follow(
         return Next::Queued(tail);
     }
     if byte == JMI {
-        return reach(
-            program,
-            sheet,
-            queue,
-            tail,
-            jump_target(program, i),
-            work,
-            ret,
-            routine,
-        );
+        let target = jump_target(program, i);
+        let Reached::Queued(more) = reach(program, sheet, queue, tail, target, work, ret, routine)
+        else {
+            return Next::Refuted(Rule::Target, i, 0);
+        };
+        return Next::Queued(more);
     }
-    let next = reach(
-        program,
-        sheet,
-        queue,
-        tail,
-        START + after as u16,
-        work,
-        ret,
-        routine,
-    );
-    if byte != JCI {
-        return next;
-    }
-    let Next::Queued(more) = next else {
-        return Next::Refuted;
+    let next = START + after as u16;
+    let Reached::Queued(more) = reach(program, sheet, queue, tail, next, work, ret, routine) else {
+        return Next::Refuted(Rule::After, i, 0);
     };
-    reach(
-        program,
-        sheet,
-        queue,
-        more,
-        jump_target(program, i),
-        work,
-        ret,
-        routine,
-    )
+    if byte != JCI {
+        return Next::Queued(more);
+    }
+    let target = jump_target(program, i);
+    let Reached::Queued(most) = reach(program, sheet, queue, more, target, work, ret, routine)
+    else {
+        return Next::Refuted(Rule::Target, i, 0);
+    };
+    Next::Queued(most)
 }

@@ -17,13 +17,13 @@ walk-requires : tie.Need-walk-requires
 walk-requires c κs = (c .before .before .before .before .before .before .before .before .before .before .before .table .ensures, (explored.begins-list _ _ _ (c .before .before .before .before .before .before .before .before .before .before .before .before .before .before .pre .some) (c .before .before .before .before .before .before .before .before .before .before .before .before .before .before .pre .most) ((c .before .before .before .before .before .mark .ensures) ∙ rw (c .before .before .before .before .before .before .before .before .before .unmark .ensures) refl) refl), omega arith)
 
 returns : tie.Need-returns
-returns c = judged.walk-fails _ _ _ _ _ _ _ (c .before .before .before .before .walk .result) (c .before .match .keys2) (c .before .before .before .before .walk .ensures)
-
-returns-2 : tie.Need-returns-2
-returns-2 c = let w = judged.walked _ _ _ _ _ _ _ (c .before .before .before .before .before .before .walk .result) _ _ (c .before .before .head .given .1) (c .before .before .before .before .before .before .walk .ensures) in explored.ends _ _ _ _ _ _ _ (w .2 _ _ (explored.begins _ _ _ (c .before .before .before .before .before .before .before .before .before .before .before .before .before .before .before .before .before .before .before .before .before .pre .some) (c .before .before .before .before .before .before .before .before .before .before .before .before .before .before .before .before .before .before .before .before .before .pre .most) ((c .before .before .before .before .before .before .before .before .before .before .before .before .mark .ensures) ∙ rw (c .before .before .before .before .before .before .before .before .before .before .before .before .before .before .before .before .unmark .ensures) refl) refl)) (omega (arith, c .if1 .taken))
+returns c = let w = judged.walked _ _ _ _ _ _ _ (c .before .before .before .before .before .before .walk .result) _ _ (c .before .before .head .given .1) (c .before .before .before .before .before .before .walk .ensures) in explored.ends _ _ _ _ _ _ _ (w .2 _ _ (explored.begins _ _ _ (c .before .before .before .before .before .before .before .before .before .before .before .before .before .before .before .before .before .before .before .before .before .pre .some) (c .before .before .before .before .before .before .before .before .before .before .before .before .before .before .before .before .before .before .before .before .before .pre .most) ((c .before .before .before .before .before .before .before .before .before .before .before .before .mark .ensures) ∙ rw (c .before .before .before .before .before .before .before .before .before .before .before .before .before .before .before .before .unmark .ensures) refl) refl)) (omega (arith, c .if1 .taken))
 
 explore-routines-requires : tie.Need-explore-routines-requires
 explore-routines-requires c κs = let w = judged.walked _ _ _ _ _ _ _ (c .before .before .before .before .before .before .before .before .before .walk .result) _ _ (c .before .before .before .before .before .head .given .1) (c .before .before .before .before .before .before .before .before .before .walk .ensures) in (c .before .before .before .before .before .before .before .before .before .before .before .before .before .before .before .before .before .before .before .before .before .table .ensures, w .2 _ _ (explored.begins _ _ _ (c .before .before .before .before .before .before .before .before .before .before .before .before .before .before .before .before .before .before .before .before .before .before .before .before .pre .some) (c .before .before .before .before .before .before .before .before .before .before .before .before .before .before .before .before .before .before .before .before .before .before .before .before .pre .most) ((c .before .before .before .before .before .before .before .before .before .before .before .before .before .before .before .mark .ensures) ∙ rw (c .before .before .before .before .before .before .before .before .before .before .before .before .before .before .before .before .before .before .before .unmark .ensures) refl) refl), w .0)
+
+returns-2 : tie.Need-returns-2
+returns-2 c = judged.walk-fails _ _ _ _ _ _ _ (c .before .before .before .before .before .walk .result) _ _ _ (c .before .rule .given .1) (c .before .before .before .before .before .walk .ensures)
 
 returns-3 : tie.Need-returns-3
 returns-3 c = c .before .before .explore-routines .ensures
@@ -40,8 +40,8 @@ explore-spec =
     (λ c. search needs)
     (λ c. search needs)
     returns
+    explore-routines-requires
     (λ c. search needs)
     returns-2
-    explore-routines-requires
     (λ c. search needs)
     returns-3)

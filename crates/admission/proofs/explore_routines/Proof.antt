@@ -27,7 +27,7 @@ same-length : tie.Need-same-length Inv-loop μ-loop
 same-length c = omega (arith, c .before .before .before .sheet .given, worklist.sheet-length _ _ _ _ (c .before .before .before .before .before .before .before .before .before .before .loop .inv .0 .list), worklist.sheet-length _ _ _ _ (c .before .before .before .before .before .before .before .before .before .before .before .before .before .pre .1 .list))
 
 returns : tie.Need-returns Inv-loop μ-loop
-returns c = worklist.refuted _ _ _ _ _ _ _ (c .before .before .before .before .visit-routine .result) (c .before .match .keys2) (c .before .before .before .before .visit-routine .ensures)
+returns c = judged.stays _ _ _ _ _ _ _ (c .before .before .before .before .visit-routine .result) (c .before .match .keys2) (c .before .before .before .before .visit-routine .ensures)
 
 add-walk : tie.Need-add-walk Inv-loop μ-loop
 add-walk c = omega (arith, c .before .before .before .before .before .before .before .before .before .before .before .before .loop-test .taken, worklist.queue-most _ _ _ _ (c .before .before .before .before .before .before .before .before .before .before .before .before .before .loop .inv .0 .list), c .before .before .before .before .before .before .before .before .before .before .before .before .before .loop .inv .0 .list .most)
@@ -36,10 +36,10 @@ walk-requires : tie.Need-walk-requires Inv-loop μ-loop
 walk-requires c κs = let n = (explored.next _ _ _ _ _ _ _ (c .before .before .before .before .before .before .before .before .before .before .before .before .before .loop .inv .0) (c .before .before .before .before .before .before .before .before .before .before .before .before .loop-test .taken) _ _ _ _ _ (worklist.went-on _ _ _ _ _ _ _ (c .before .before .before .before .before .before .before .visit-routine .result) _ (c .before .before .before .next .given .1) (c .before .before .before .before .before .before .before .visit-routine .ensures))) in (c .before .before .before .before .before .before .before .before .before .before .before .before .before .before .before .before .pre .0, n .list, n .low)
 
 same-length-2 : tie.Need-same-length-2 Inv-loop μ-loop
-same-length-2 c = omega (arith, c .before .before .before .sheet2 .given, c .before .before .before .before .before .before .before .before .before .before .before .sheet .given, worklist.sheet-length _ _ _ _ (c .before .before .before .before .before .before .before .before .before .before .before .before .before .before .before .before .before .before .loop .inv .0 .list), worklist.sheet-length _ _ _ _ (c .before .before .before .before .before .before .before .before .before .before .before .before .before .before .before .before .before .before .before .before .before .pre .1 .list))
+same-length-2 c = omega (arith, c .before .before .before .before .sheet2 .given, c .before .before .before .before .before .before .before .before .before .before .before .before .sheet .given, worklist.sheet-length _ _ _ _ (c .before .before .before .before .before .before .before .before .before .before .before .before .before .before .before .before .before .before .before .loop .inv .0 .list), worklist.sheet-length _ _ _ _ (c .before .before .before .before .before .before .before .before .before .before .before .before .before .before .before .before .before .before .before .before .before .before .pre .1 .list))
 
 returns-2 : tie.Need-returns-2 Inv-loop μ-loop
-returns-2 c = judged.walk-fails _ _ _ _ _ _ _ (c .before .before .before .before .walk .result) (c .before .match2 .keys2) (c .before .before .before .before .walk .ensures)
+returns-2 c = judged.walk-fails _ _ _ _ _ _ _ (c .before .before .before .before .before .walk .result) _ _ _ (c .before .rule .given .1) (c .before .before .before .before .before .walk .ensures)
 
 loop-less : tie.Need-loop-less Inv-loop μ-loop
 loop-less c = let w = judged.walked _ _ _ _ _ _ _ (c .before .before .before .before .before .walk .result) _ _ (c .before .at .given .1) (c .before .before .before .before .before .walk .ensures) in omega (arith, w .1, c .before .before .before .before .before .before .before .before .before .before .before .before .before .before .before .before .before .before .loop-test .taken, worklist.queue-most _ _ _ _ (c .before .before .before .before .before .before .before .before .before .before .before .before .before .before .before .before .before .before .before .loop .inv .0 .list))
@@ -68,9 +68,9 @@ explore-routines-spec =
     add-walk
     walk-requires
     (λ c. search needs)
-    (λ c. search needs)
     same-length-2
     returns-2
+    (λ c. search needs)
     loop-less
     loop-again
     same-length-3

@@ -18,20 +18,20 @@ element-copy-out-wide c = omega (arith, returning.head-inside _ _ _ _ _ _ _ (c .
 depths-after-requires : tie.Need-depths-after-requires
 depths-after-requires c κs = (c .before .before .before .before .before .pre .0, worklist.marked-inside _ _ _ _ (c .before .before .before .before .before .pre .1 .list) _ (returning.here _ _ _ _ _ _ _ (c .before .before .before .before .before .pre .1) _ (c .before .wide .ensures)), c .before .before .before .before .before .pre .1 .list .most, worklist.record-inside _ _ _ _ (c .before .before .before .before .before .pre .1 .list) _ (returning.here _ _ _ _ _ _ _ (c .before .before .before .before .before .pre .1) _ (c .before .wide .ensures)))
 
-returns : tie.Need-returns
-returns c = visits.fails _ _ _ _ (c .before .before .before .before .before .before .before .before .pre .1 .list) _ (returning.here _ _ _ _ _ _ _ (c .before .before .before .before .before .before .before .before .pre .1) _ (c .before .before .before .before .wide .ensures)) (judged.fails _ _ _ (c .before .before .depths-after .result) (c .before .match .keys2) (c .before .before .depths-after .ensures))
-
 shared-slice-read-if1 : tie.Need-shared-slice-read-if1
 shared-slice-read-if1 c = worklist.marked-inside _ _ _ _ (c .before .before .before .before .before .before .before .before .before .before .pre .1 .list) _ (returning.here _ _ _ _ _ _ _ (c .before .before .before .before .before .before .before .before .before .before .pre .1) _ (c .before .before .before .before .before .before .wide .ensures))
 
 leave-requires : tie.Need-leave-requires
 leave-requires c κs = let t = judged.tested _ _ _ (c .before .before .before .before .before .before .before .before .before .depths-after .result) (c .before .before .before .before .before .before .before .before .before .depths-after .ensures) _ _ _ (c .before .before .before .before .before .before .before .work .given .1) in returning.leave-asks _ _ _ _ _ _ _ (c .before .before .before .before .before .before .before .before .before .before .before .before .before .before .before .pre .1) _ (c .before .before .before .before .before .before .before .before .before .before .before .wide .ensures) (c .before .before .before .before .if1 .taken) _ _ (t .0)
 
-returns-2 : tie.Need-returns-2
-returns-2 c = c .before .before .leave .ensures
+returns : tie.Need-returns
+returns c = c .before .before .leave .ensures
 
 call-requires : tie.Need-call-requires
 call-requires c κs = let t = judged.tested _ _ _ (c .before .before .before .before .before .before .before .before .before .depths-after .result) (c .before .before .before .before .before .before .before .before .before .depths-after .ensures) _ _ _ (c .before .before .before .before .before .before .before .work .given .1) in let j = judged.is-call _ (rw (c .before .before .before .before .before .before .before .before .before .before .before .wide .ensures) (c .before .before .before .before .before .before .before .before .before .before .before .before .before .before .before .pre .2)) (c .before .before .before .before .if1 .left) in (c .before .before .before .before .before .before .before .before .before .before .before .before .before .before .before .pre .1, c .before .before .before .before .before .before .before .before .before .before .before .wide .ensures, t .0, visits.call-above _ _ _ _ (c .before .before .before .before .before .before .before .before .before .before .before .before .before .before .before .pre .1 .list) _ (returning.here _ _ _ _ _ _ _ (c .before .before .before .before .before .before .before .before .before .before .before .before .before .before .before .pre .1) _ (c .before .before .before .before .before .before .before .before .before .before .before .wide .ensures)) j, j)
+
+returns-2 : tie.Need-returns-2
+returns-2 c = visits.told-alone _ _ _ _ (c .before .before .before .before .before .before .before .before .before .pre .1 .list) _ (returning.here _ _ _ _ _ _ _ (c .before .before .before .before .before .before .before .before .before .pre .1) _ (c .before .before .before .before .before .wide .ensures)) _ (judged.fails _ _ _ (c .before .before .before .depths-after .result) _ (c .before .rule .given .1) (c .before .before .before .depths-after .ensures))
 
 returns-3 : tie.Need-returns-3
 returns-3 c = c .before .before .call .ensures
@@ -46,12 +46,12 @@ visit-routine-spec =
     depths-after-requires
     (λ c. search needs)
     (λ c. search needs)
-    (λ c. search needs)
-    returns
     shared-slice-read-if1
     leave-requires
     (λ c. search needs)
-    returns-2
+    returns
     call-requires
+    (λ c. search needs)
+    returns-2
     (λ c. search needs)
     returns-3)

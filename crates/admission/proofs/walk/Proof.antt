@@ -39,10 +39,10 @@ visit-requires : tie.Need-visit-requires Inv-loop μ-loop
 visit-requires c κs = let n = judged.neither _ _ (c .before .before .before .of-routines .ensures) (c .before .before .if1 .left) in (c .before .before .before .before .before .before .before .before .before .before .before .pre .0, c .before .before .before .before .before .before .before .before .loop .inv .list, explored.walk-here _ _ _ _ _ _ _ _ _ (c .before .before .before .before .before .before .before .before .loop .inv) (c .before .before .before .before .before .before .before .loop-test .taken) _ (c .before .before .before .before .before .wide .ensures), n .0, n .1)
 
 same-length-2 : tie.Need-same-length-2 Inv-loop μ-loop
-same-length-2 c = (c .before .before .before .sheet .given) ∙ worklist.sheet-length _ _ _ _ (c .before .before .before .before .before .before .before .before .before .before .before .before .before .loop .inv .list) ∙ sym (worklist.sheet-length _ _ _ _ (c .before .before .before .before .before .before .before .before .before .before .before .before .before .before .before .before .pre .1))
+same-length-2 c = (c .before .before .before .before .sheet .given) ∙ worklist.sheet-length _ _ _ _ (c .before .before .before .before .before .before .before .before .before .before .before .before .before .before .loop .inv .list) ∙ sym (worklist.sheet-length _ _ _ _ (c .before .before .before .before .before .before .before .before .before .before .before .before .before .before .before .before .before .pre .1))
 
 returns-2 : tie.Need-returns-2 Inv-loop μ-loop
-returns-2 c = worklist.refuted _ _ _ _ _ _ _ (c .before .before .before .before .visit .result) (c .before .match .keys2) (c .before .before .before .before .visit .ensures)
+returns-2 c = judged.refuted _ _ _ _ _ _ _ (c .before .before .before .before .before .visit .result) _ _ _ (c .before .rule .given .1) (c .before .before .before .before .before .visit .ensures)
 
 add-head : tie.Need-add-head Inv-loop μ-loop
 add-head c = omega (arith, explored.walk-inside _ _ _ _ _ _ _ _ _ (c .before .before .before .before .before .before .before .before .before .before .before .before .before .before .loop .inv) (c .before .before .before .before .before .before .before .before .before .before .before .before .before .loop-test .taken))
@@ -75,9 +75,9 @@ walk-spec =
     returns
     visit-requires
     (λ c. search needs)
-    (λ c. search needs)
     same-length-2
     returns-2
+    (λ c. search needs)
     add-head
     loop-less
     loop-again
