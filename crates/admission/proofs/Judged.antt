@@ -11,7 +11,7 @@ use lib.Dec.{eqb, ltb}
 use lib.ListN.{getD}
 use borrow.Author.Tests.{eqb-true, eqb-false, le-ltb}
 use Rattle.model.specs.Instruction.{lengthOf}
-use Rattle.worklist.specs.Worklist.{Tested, Fails, Told, Outcome}
+use Rattle.worklist.specs.Worklist.{Tested, Fails, ToldIn, Outcome}
 use Rattle.worklist.specs.declared.Next.{Next}
 use Rattle.worklist.specs.declared.Rule.{Rule}
 use Rattle.worklist.proofs.Next.{the-type as next-type}
@@ -60,18 +60,18 @@ pub walked : (program sheet queue : List ℕ) (first listed : ℕ) (sheet₁ que
     → Walked program sheet queue first listed sheet₁ queue₁ w → Walked program sheet queue first listed sheet₁ queue₁ (Stop.At head tail)
 walked program sheet queue first listed sheet₁ queue₁ w head tail e o = rw e at o
 
-pub walk-fails : (program sheet queue : List ℕ) (first listed : ℕ) (sheet₁ queue₁ : List ℕ) (w : Stop) (rule : Rule) (i j : ℕ)
-    → w ≡ Stop.Refuted rule i j → Walked program sheet queue first listed sheet₁ queue₁ w → Told program sheet₁ rule i j
-walk-fails program sheet queue first listed sheet₁ queue₁ w rule i j e o = rw e at o
+pub walk-fails : (program sheet queue : List ℕ) (first listed : ℕ) (sheet₁ queue₁ : List ℕ) (w : Stop) (n : ℕ)
+    → w ≡ Stop.Refuted n → Walked program sheet queue first listed sheet₁ queue₁ w → ToldIn program sheet₁ n
+walk-fails program sheet queue first listed sheet₁ queue₁ w n e o = rw e at o
 
 -- ---- the answers of a visit
 
-pub refuted : (program sheet queue : List ℕ) (tail : ℕ) (sheet₁ queue₁ : List ℕ) (P : Type 0) (n : Next) (rule : Rule) (i j : ℕ)
-    → n ≡ Next.Refuted rule i j → Outcome program sheet queue tail sheet₁ queue₁ P n → Told program sheet₁ rule i j
-refuted program sheet queue tail sheet₁ queue₁ P n rule i j e o = rw e at o
+pub refuted : (program sheet queue : List ℕ) (tail : ℕ) (sheet₁ queue₁ : List ℕ) (P : Type 0) (n : Next) (k : ℕ)
+    → n ≡ Next.Refuted k → Outcome program sheet queue tail sheet₁ queue₁ P n → ToldIn program sheet₁ k
+refuted program sheet queue tail sheet₁ queue₁ P n k e o = rw e at o
 
 -- one that is passed on
 pub stays : (program sheet queue : List ℕ) (tail : ℕ) (sheet₁ queue₁ : List ℕ) (P : Type 0) (n : Next) → OneOf (0 ∷ []) (tagOf next-type n)
     → Outcome program sheet queue tail sheet₁ queue₁ P n → Explored program sheet₁ n
-stays program sheet queue tail sheet₁ queue₁ P (Next.Refuted rule i j) e o = o
+stays program sheet queue tail sheet₁ queue₁ P (Next.Refuted k) e o = o
 stays program sheet queue tail sheet₁ queue₁ P (Next.Queued k) e o = absurd (miss (0 ∷ []) 1 tt e)

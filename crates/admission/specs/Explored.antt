@@ -8,7 +8,7 @@ use Prim.Native.Nat.{ℕ, _+_, _≤_, _<_}
 use lib.ListN.{getD}
 use Rattle.model.specs.Instruction.{lengthOf}
 use Rattle.model.specs.Admission.{Smallest}
-use Rattle.worklist.specs.Worklist.{Obeyed, Listed, Tested, placed, Waiting, Fails, Told}
+use Rattle.worklist.specs.Worklist.{Obeyed, Listed, Tested, placed, Waiting, Fails, ToldIn}
 use Rattle.worklist.specs.declared.Next.{Next}
 use Rattle.admission.specs.declared.Depths.{Depths}
 use Rattle.admission.specs.declared.Stop.{Stop}
@@ -35,7 +35,7 @@ Met program queue head tail = head < tail → OfRoutines (getD program (getD que
 
 -- A rule fails, or the walk went on from place `first` to place `head`, whatever calls wait.
 abbrev pub Walked : (program sheet queue : List ℕ) → ℕ → ℕ → (sheetAfter queueAfter : List ℕ) → Stop → Type 0
-Walked program sheet queue first listed sheetAfter queueAfter (Stop.Refuted rule i j) = Told program sheetAfter rule i j
+Walked program sheet queue first listed sheetAfter queueAfter (Stop.Refuted n) = ToldIn program sheetAfter n
 Walked program sheet queue first listed sheetAfter queueAfter (Stop.At head tail) =
     Met program queueAfter head tail
     × (first ≤ head)
@@ -43,5 +43,5 @@ Walked program sheet queue first listed sheetAfter queueAfter (Stop.At head tail
 
 -- A rule fails, or the sheet is the smallest one.
 abbrev pub Explored : List ℕ → List ℕ → Next → Type 0
-Explored program sheet (Next.Refuted rule i j) = Told program sheet rule i j
-Explored program sheet (Next.Queued n) = Smallest program sheet
+Explored program sheet (Next.Refuted n) = ToldIn program sheet n
+Explored program sheet (Next.Queued t) = Smallest program sheet

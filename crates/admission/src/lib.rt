@@ -2,7 +2,7 @@
 use buffers::clear;
 use model::AdmitReply;
 use model::ExplainReply;
-use reasons::reason;
+use reasons::reason_of;
 use rules::below_floor;
 use rules::depth_by_table;
 use rules::forbidden;
@@ -21,6 +21,7 @@ use worklist::floor_of;
 use worklist::follow;
 use worklist::leave;
 use worklist::mark;
+use worklist::refuted;
 use worklist::routine_of;
 use worklist::wide;
 ghost use mathlib.Core.Path.{_≡_};
@@ -139,11 +140,11 @@ fn visit(
         (Obeyed (now (program .entry)) (now (sheet .exit)) (start + i)) n ⌝ }
 {
     match depths_after(rows, program, sheet, i) {
-        Depths::Fails(rule) => Next::Refuted(rule, i, 0),
+        Depths::Fails(rule) => refuted(rule, i, 0),
         Depths::After(after, work, ret) => {
             let routine = routine_of(sheet, i);
             if sinks(rows, program, sheet, i, routine) {
-                return Next::Refuted(Rule::BelowFloor, i, 0);
+                return refuted(Rule::BelowFloor, i, 0);
             }
             follow(program, sheet, queue, tail, i, after, work, ret, routine)
         }
@@ -160,7 +161,7 @@ fn of_routines(byte: u8) -> bool
 // How a walk ends: a rule fails, as in `Next`; or at this place of the queue, where a call or a return is next, or nothing, with so many
 // addresses in the queue.
 enum Stop {
-    Refuted(Rule, usize, usize),
+    Refuted(usize),
     At(usize, usize),
 }
 
@@ -184,7 +185,7 @@ fn walk(
             return Stop::At(head, tail);
         }
         match visit(rows, program, sheet, queue, tail, i) {
-            Next::Refuted(rule, i, j) => return Stop::Refuted(rule, i, j),
+            Next::Refuted(fault) => return Stop::Refuted(fault),
             Next::Queued(more) => tail = more,
         }
         head += 1;
@@ -212,7 +213,7 @@ fn visit_routine(
 {
     let i = wide(queue[head]);
     match depths_after(rows, program, sheet, i) {
-        Depths::Fails(rule) => Next::Refuted(rule, i, 0),
+        Depths::Fails(rule) => refuted(rule, i, 0),
         Depths::After(_, work, ret) => {
             if program[i] == RETURN {
                 return leave(program, sheet, queue, tail, head, routines, before);
@@ -265,7 +266,7 @@ fn explore_routines(
             return next;
         };
         match walk(rows, program, sheet, queue, head + 1, more) {
-            Stop::Refuted(rule, i, j) => return Next::Refuted(rule, i, j),
+            Stop::Refuted(fault) => return Next::Refuted(fault),
             Stop::At(at, end) => {
                 head = at;
                 tail = end;
@@ -288,7 +289,7 @@ fn explore(program: &[u8], sheet: &mut [u8]) -> Next
     unmark(program, sheet);
     mark(sheet, 0, 0, 0, START);
     match walk(&rows, program, sheet, &mut queue, 0, 1) {
-        Stop::Refuted(rule, i, j) => Next::Refuted(rule, i, j),
+        Stop::Refuted(fault) => Next::Refuted(fault),
         Stop::At(head, tail) => {
             if head == tail {
                 return Next::Queued(tail);
@@ -327,9 +328,9 @@ fn tell(program: &[u8], sheet: &mut [u8]) -> ExplainReply
     ensures { λ r. ⌜ Explains (now (program .entry)) r ⌝ }
 {
     match explore(program, sheet) {
-        Next::Refuted(rule, i, j) => {
+        Next::Refuted(fault) => {
             let rows = table();
-            ExplainReply::Because(reason(&rows, program, sheet, rule, i, j))
+            ExplainReply::Because(reason_of(&rows, program, sheet, fault))
         }
         Next::Queued(_) => ExplainReply::Admitted,
     }

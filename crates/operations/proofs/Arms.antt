@@ -2,7 +2,7 @@
 use mathlib.Core.Path.{_≡_, refl, ap}
 use mathlib.Core.Bool.{Bool, true, false, cond}
 use mathlib.Core.List.{List, []}
-use Prim.Native.Nat.{ℕ, zero, suc, _+_, _/_, _%_, _≤_, _<_}
+use Prim.Native.Nat.{ℕ, zero, suc, _+_, _/_, _%_, _<_}
 use native.Mathlib.Omega.{arith}
 use lib.Dec.{T, eqb, ltb, ltb→lt}
 use borrow.Author.Tests.{eq-eqb, ne-eqb}
@@ -13,6 +13,7 @@ use Rattle.model.specs.Instruction.Op.{JCI, INC, POP, NIP, SWP, ROT, DUP, OVR, 
 use Rattle.model.specs.Step.{offset, effect, effectOn, words, mainAfter, otherAfter, written, applied, exchanged, operated, execute}
 use Rattle.model.specs.Run.{reply}
 use Rattle.model.specs.Run.Answer.{WentOn, Broke}
+use Rattle.model.proofs.Keys.{Beside, from-zero}
 use Rattle.operations.specs.After.{mainWith, executed, byteOf}
 
 -- the state after an operation, its main stack being the working stack, part by part
@@ -193,17 +194,6 @@ lit-is false true s e f hn ht = rw (e, f, hn, ht)
 lit-is false false s e f hn ht = rw (e, f, hn, ht)
 
 -- ---- the last arm of a match from 0 on
-
-abbrev pub Beside : ℕ → ℕ → Type 0
-Beside key zero = Unit {0}
-Beside key (suc n) = Beside key n × (key ≡ n → ⊥)
-
-from-zero : (n key : ℕ) → Beside key n → n ≤ key
-from-zero zero key h = omega arith
-from-zero (suc n) key h =
-    let e = from-zero n key (h .0) in
-    let d = h .1 in
-    omega arith
 
 pub last-key : (n key : ℕ) → Beside key n → key < n + 1 → key ≡ n
 last-key n key h m = let e = from-zero n key h in omega arith

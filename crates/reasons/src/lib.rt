@@ -7,10 +7,13 @@ use table::LENGTH;
 use table::RETURNING;
 use table::WORKING;
 use table::entry;
+use worklist::PLACES;
+use worklist::RULES;
 use worklist::Rule;
 use worklist::SHEET_RECORD;
 use worklist::START;
 use worklist::routine_of;
+use worklist::rule_in;
 use worklist::wide;
 ghost use mathlib.Core.Path.{_≡_};
 ghost use Prim.Native.Nat.{_+_, _*_, _≤_, _<_};
@@ -18,7 +21,7 @@ ghost use lib.ListN.{length};
 ghost use Rattle.model.specs.Instruction.{working, returning, takenFrom, RowTable};
 ghost use Rattle.model.specs.Admission.{admitMost, depthAfter, sheetRecord};
 ghost use Rattle.model.specs.Reasons.{Stands, True};
-ghost use Rattle.worklist.specs.Worklist.{placeAt, Lost, Told};
+ghost use Rattle.worklist.specs.Worklist.{placeAt, Lost, Told, ToldIn};
 ghost use Rattle.reasons.specs.Next.{nextPlace};
 
 const JSI: u8 = 0x60;
@@ -74,14 +77,7 @@ fn astray(program: &[u8], sheet: &[u8], here: Place, next: Place) -> Reason
 }
 
 // The rule fails at place i; j is the place of a return of which it speaks too.
-pub fn reason(
-    rows: &[u8; 1280],
-    program: &[u8],
-    sheet: &[u8],
-    rule: Rule,
-    i: usize,
-    j: usize,
-) -> Reason
+fn reason(rows: &[u8; 1280], program: &[u8], sheet: &[u8], rule: Rule, i: usize, j: usize) -> Reason
     requires { ⌜ RowTable (now rows) × Told (now program) (now sheet) rule i j ⌝ }
     ensures { λ r. ⌜ True (now (program .entry)) r ⌝ }
 {
@@ -140,4 +136,20 @@ pub fn reason(
         }
         Rule::ReturnsDiffer => Reason::ReturnsDiffer(here, place_of(sheet, j)),
     }
+}
+
+// The reason of a rule that fails, from the number that has it and its places.
+pub fn reason_of(rows: &[u8; 1280], program: &[u8], sheet: &[u8], fault: usize) -> Reason
+    requires { ⌜ RowTable (now rows) × ToldIn (now program) (now sheet) fault ⌝ }
+    ensures { λ r. ⌜ True (now (program .entry)) r ⌝ }
+{
+    let places = fault / RULES;
+    reason(
+        rows,
+        program,
+        sheet,
+        rule_in(fault),
+        places % PLACES,
+        places / PLACES,
+    )
 }

@@ -3,7 +3,7 @@ use mathlib.Core.Path.{_≡_, refl, sym, ap, _∙_}
 use mathlib.Core.Logic.{_⊎_, inl, inr}
 use mathlib.Core.Bool.{Bool, true, false, cond, true≢false}
 use mathlib.Core.List.{List, [], _∷_}
-use Prim.Native.Nat.{ℕ, _+_, _-_, _*_, _≤_, _<_}
+use Prim.Native.Nat.{ℕ, _+_, _-_, _*_, _%_, _≤_, _<_}
 use native.Mathlib.Decide.{ℕ-discrete}
 use native.Mathlib.Omega.{arith}
 use denote.Enum.Declared.{tagOf}
@@ -21,9 +21,10 @@ use Rattle.model.proofs.Rules.{not-both, marked-within}
 use Rattle.model.proofs.Sheet.{mark-in, length-sheet}
 use Rattle.worklist.specs.declared.Next.{Next}
 use Rattle.worklist.specs.declared.Reached.{Reached}
+use Rattle.worklist.specs.declared.Rule.{Rule}
 use Rattle.worklist.proofs.Next.{the-type}
 use Rattle.worklist.proofs.Reached.{the-type as reached-type}
-use Rattle.worklist.specs.Worklist.{workAt, retAt, routineAt, Has, Agrees, Led, Marks, Rooted, Roots, Listed, Extended, Marking, placeAt, Outcome, Left}
+use Rattle.worklist.specs.Worklist.{workAt, retAt, routineAt, Has, Agrees, Led, Marks, Rooted, Roots, Listed, Extended, Marking, placeAt, Told, Refutes, Outcome, Left}
 use Rattle.worklist.proofs.Sheets.{byte-of-record, mark-unmarked, mark-marked, withMark, sheet-set, count-set, count-room}
 
 -- a mark has one pair of depths and one routine
@@ -330,10 +331,19 @@ pub went-on : (program sheet queue : List ℕ) (tail : ℕ) (sheet₁ queue₁ :
     → Outcome program sheet queue tail sheet₁ queue₁ P n → Extended program sheet queue tail sheet₁ queue₁ k × P
 went-on program sheet queue tail sheet₁ queue₁ P n k e o = rw e at o
 
--- a rule that fails fails from wherever the worklist came
+-- a rule that fails, by its number
+pub tells : (program sheet queue : List ℕ) (tail : ℕ) (sheet₁ queue₁ : List ℕ) (P : Type 0) (rule : Rule) (i j : ℕ) (n : Next)
+    → Refutes rule i j n → Told program sheet₁ rule i j → Outcome program sheet queue tail sheet₁ queue₁ P n
+tells program sheet queue tail sheet₁ queue₁ P rule i j (Next.Refuted n) e t =
+    let at : i % admitMost ≡ i = omega (arith, t .here, t .most) in
+    let other : j % admitMost ≡ j = omega (arith, t .there, t .most) in
+    rw (e .0, e .1, e .2, at, other) t
+tells program sheet queue tail sheet₁ queue₁ P rule i j (Next.Queued k) e t = absurd e
+
+-- it fails from wherever the worklist came
 pub refuted : (program sheet queue : List ℕ) (tail : ℕ) (sheet₀ queue₀ : List ℕ) (tail₀ : ℕ) (sheet₁ queue₁ : List ℕ) (P Q : Type 0) (n : Next)
     → OneOf (0 ∷ []) (tagOf the-type n) → Outcome program sheet₀ queue₀ tail₀ sheet₁ queue₁ P n → Outcome program sheet queue tail sheet₁ queue₁ Q n
-refuted program sheet queue tail sheet₀ queue₀ tail₀ sheet₁ queue₁ P Q (Next.Refuted rule i j) e o = o
+refuted program sheet queue tail sheet₀ queue₀ tail₀ sheet₁ queue₁ P Q (Next.Refuted n) e o = o
 refuted program sheet queue tail sheet₀ queue₀ tail₀ sheet₁ queue₁ P Q (Next.Queued k) e o = absurd (miss (0 ∷ []) 1 tt e)
 
 -- the two answers of `reach`
@@ -351,12 +361,12 @@ is-astray program sheet queue tail sheet₁ queue₁ at w r q (Reached.Queued k)
 pub outcome-by : (program sheet queue : List ℕ) (tail : ℕ) (sheet₁ queue₁ : List ℕ) (P Q : Type 0)
     → ((k : ℕ) → Extended program sheet queue tail sheet₁ queue₁ k → P → Q) → (n : Next)
     → Outcome program sheet queue tail sheet₁ queue₁ P n → Outcome program sheet queue tail sheet₁ queue₁ Q n
-outcome-by program sheet queue tail sheet₁ queue₁ P Q f (Next.Refuted rule i j) o = o
+outcome-by program sheet queue tail sheet₁ queue₁ P Q f (Next.Refuted n) o = o
 outcome-by program sheet queue tail sheet₁ queue₁ P Q f (Next.Queued k) o = (o .0, f k (o .0) (o .1))
 
 -- after one extension
 pub outcome-after : (program sheet queue : List ℕ) (tail : ℕ) (sheet₁ queue₁ : List ℕ) (tail₁ : ℕ) (sheet₂ queue₂ : List ℕ) (P : Type 0)
     → Extended program sheet queue tail sheet₁ queue₁ tail₁ → (n : Next)
     → Outcome program sheet₁ queue₁ tail₁ sheet₂ queue₂ P n → Outcome program sheet queue tail sheet₂ queue₂ P n
-outcome-after program sheet queue tail sheet₁ queue₁ tail₁ sheet₂ queue₂ P a (Next.Refuted rule i j) o = o
+outcome-after program sheet queue tail sheet₁ queue₁ tail₁ sheet₂ queue₂ P a (Next.Refuted n) o = o
 outcome-after program sheet queue tail sheet₁ queue₁ tail₁ sheet₂ queue₂ P a (Next.Queued k) o = (extended-again a (o .0), o .1)

@@ -4,8 +4,8 @@
 use mathlib.Core.Path.{_≡_}
 use mathlib.Core.Logic.{_⊎_}
 use mathlib.Core.Bool.{Bool, true, false, cond, not}
-use mathlib.Core.List.{List}
-use Prim.Native.Nat.{ℕ, suc, _+_, _-_, _*_, _≤_, _<_}
+use mathlib.Core.List.{List, [], _∷_}
+use Prim.Native.Nat.{ℕ, suc, _+_, _-_, _*_, _/_, _%_, _≤_, _<_}
 use lib.Dec.{T, eqb}
 use lib.ListN.{length, getD}
 use Rattle.model.specs.Machine.{start}
@@ -198,9 +198,38 @@ pub record Told (program sheet : List ℕ) (rule : Rule) (i j : ℕ) : Type 0 wh
   pub stands : Stands program (placeAt sheet i)
   pub fails : Fails program sheet rule i j
 
+-- ---- the same as a number
+
+-- the rules by their numbers, but for the last one
+abbrev pub firstRules : List Rule
+firstRules =
+    Rule.Forbidden ∷ Rule.Cut ∷ Rule.FewWorking ∷ Rule.ManyWorking ∷ Rule.FewReturn ∷ Rule.ManyReturn ∷ Rule.BelowFloor ∷ Rule.After
+    ∷ Rule.Target ∷ Rule.Back ∷ Rule.ReturnOffFloor ∷ []
+
+abbrev pub ruleOf : ℕ → Rule
+ruleOf n = getD firstRules n Rule.ReturnsDiffer
+
+-- its rule, the place where it fails, and the other place
+unfoldable pub ruleIn : ℕ → Rule
+ruleIn n = ruleOf (n % 16)
+
+unfoldable pub placeIn : ℕ → ℕ
+placeIn n = n / 16 % admitMost
+
+unfoldable pub otherIn : ℕ → ℕ
+otherIn n = n / 16 / admitMost
+
+abbrev pub ToldIn : (program sheet : List ℕ) → ℕ → Type 0
+ToldIn program sheet n = Told program sheet (ruleIn n) (placeIn n) (otherIn n)
+
+-- the number of a rule and two places
+abbrev pub Refutes : Rule → ℕ → ℕ → Next → Type 0
+Refutes rule i j (Next.Refuted n) = (ruleIn n ≡ rule) × (placeIn n ≡ i % admitMost) × (otherIn n ≡ j % admitMost)
+Refutes rule i j (Next.Queued t) = ⊥
+
 -- A rule fails; or the worklist goes on, and P holds.
 abbrev pub Outcome : (program sheet queue : List ℕ) → ℕ → (sheetAfter queueAfter : List ℕ) → Type 0 → Next → Type 0
-Outcome program sheet queue tail sheetAfter queueAfter P (Next.Refuted rule i j) = Told program sheetAfter rule i j
+Outcome program sheet queue tail sheetAfter queueAfter P (Next.Refuted n) = ToldIn program sheetAfter n
 Outcome program sheet queue tail sheetAfter queueAfter P (Next.Queued t) = Extended program sheet queue tail sheetAfter queueAfter t × P
 
 -- ---- calls and returns, among the first `head` places of the queue, which were visited

@@ -8,7 +8,7 @@ ghost use lib.ListN.{length, getD, set};
 ghost use Rattle.model.specs.Machine.{start};
 ghost use Rattle.model.specs.Instruction.{lengthOf};
 ghost use Rattle.model.specs.Admission.{admitMost, byteAt, targetOf, sheetRecord};
-ghost use Rattle.worklist.specs.Worklist.{routineAt, Agrees, Led, Marks, Passing, Obeyed, Roots, Listed, Tested, Above, Marking, Outcome, placed, Back, AllBack, Left, Chain, Visit, Visited};
+ghost use Rattle.worklist.specs.Worklist.{routineAt, Agrees, Led, Marks, Passing, Obeyed, Roots, Listed, Tested, Above, Marking, ruleOf, ruleIn, Refutes, Outcome, placed, Back, AllBack, Left, Chain, Visit, Visited};
 
 // "The sheet record becomes 8 bytes: the old four", which are mark, working depth, return depth, the program byte, "the routine (two
 // bytes), two zeros".
@@ -45,10 +45,10 @@ pub enum Rule {
     ReturnsDiffer,
 }
 
-// How the worklist goes on: this rule fails at a place of the program, so that there is no assignment (the second number is the place of
-// a return of which the rule speaks too, or 0); or with this many addresses in the queue.
+// How the worklist goes on: a rule fails, so that there is no assignment, and the number has the rule and where it fails (`refuted`); or
+// with this many addresses in the queue.
 pub enum Next {
-    Refuted(Rule, usize, usize),
+    Refuted(usize),
     Queued(usize),
 }
 
@@ -56,6 +56,62 @@ pub enum Next {
 enum Reached {
     Astray,
     Queued(usize),
+}
+
+// ---- a rule that fails, as a number
+
+// There is room for 16 rules, and for two places of a program.
+pub const RULES: usize = 16;
+
+pub const PLACES: usize = 4096;
+
+fn number_of(rule: Rule) -> usize
+    ensures { λ n. ⌜ (n < 16) × (ruleOf n ≡ rule) ⌝ }
+{
+    match rule {
+        Rule::Forbidden => 0,
+        Rule::Cut => 1,
+        Rule::FewWorking => 2,
+        Rule::ManyWorking => 3,
+        Rule::FewReturn => 4,
+        Rule::ManyReturn => 5,
+        Rule::BelowFloor => 6,
+        Rule::After => 7,
+        Rule::Target => 8,
+        Rule::Back => 9,
+        Rule::ReturnOffFloor => 10,
+        Rule::ReturnsDiffer => 11,
+    }
+}
+
+// The rule fails at place i of the program; j is the place of a return of which it speaks too, or 0. They are one number, as the length of
+// the queue is, so that the loop of the visits has one register for either.
+pub fn refuted(rule: Rule, i: usize, j: usize) -> Next
+    ensures { λ n. ⌜ Refutes rule i j n ⌝ }
+{
+    let places = i % PLACES + PLACES * (j % PLACES);
+    Next::Refuted(number_of(rule) + RULES * places)
+}
+
+// The rule of such a number.
+pub fn rule_in(fault: usize) -> Rule
+    ensures { λ r. ⌜ r ≡ ruleIn fault ⌝ }
+{
+    let number = fault % RULES;
+    match number {
+        0 => Rule::Forbidden,
+        1 => Rule::Cut,
+        2 => Rule::FewWorking,
+        3 => Rule::ManyWorking,
+        4 => Rule::FewReturn,
+        5 => Rule::ManyReturn,
+        6 => Rule::BelowFloor,
+        7 => Rule::After,
+        8 => Rule::Target,
+        9 => Rule::Back,
+        10 => Rule::ReturnOffFloor,
+        _ => Rule::ReturnsDiffer,
+    }
 }
 
 // A function of its own, since a cast of an element of an array would ask for a proof that it fits.
@@ -171,7 +227,7 @@ fn come_back(
     let routine = routine_of(sheet, i);
     let after = START + (i + 3) as u16;
     let Reached::Queued(more) = reach(program, sheet, queue, tail, after, work, ret, routine) else {
-        return Next::Refuted(Rule::Back, i, from);
+        return refuted(Rule::Back, i, from);
     };
     Next::Queued(more)
 }
@@ -230,7 +286,7 @@ pub fn leave(
     let entry = wide(routine - START);
     // "it stands only at the floor"
     if floor_of(sheet, routine) != sheet[SHEET_RECORD * i + 2] {
-        return Next::Refuted(Rule::ReturnOffFloor, i, 0);
+        return refuted(Rule::ReturnOffFloor, i, 0);
     }
     // "and leaves with one working depth for the whole routine"
     let work = sheet[SHEET_RECORD * i + 1];
@@ -240,7 +296,7 @@ pub fn leave(
         if sheet[SHEET_RECORD * other + 1] == work {
             return Next::Queued(tail);
         }
-        return Next::Refuted(Rule::ReturnsDiffer, i, other);
+        return refuted(Rule::ReturnsDiffer, i, other);
     }
     let next = release(
         program,
@@ -277,7 +333,7 @@ pub fn call(
 {
     let target = jump_target(program, i);
     let Reached::Queued(more) = reach(program, sheet, queue, tail, target, work, ret, target) else {
-        return Next::Refuted(Rule::Target, i, 0);
+        return refuted(Rule::Target, i, 0);
     };
     let entry = wide(target - START);
     let known = routines[entry];
@@ -318,13 +374,13 @@ pub fn follow(
         let target = jump_target(program, i);
         let Reached::Queued(more) = reach(program, sheet, queue, tail, target, work, ret, routine)
         else {
-            return Next::Refuted(Rule::Target, i, 0);
+            return refuted(Rule::Target, i, 0);
         };
         return Next::Queued(more);
     }
     let next = START + after as u16;
     let Reached::Queued(more) = reach(program, sheet, queue, tail, next, work, ret, routine) else {
-        return Next::Refuted(Rule::After, i, 0);
+        return refuted(Rule::After, i, 0);
     };
     if byte != JCI {
         return Next::Queued(more);
@@ -332,7 +388,7 @@ pub fn follow(
     let target = jump_target(program, i);
     let Reached::Queued(most) = reach(program, sheet, queue, more, target, work, ret, routine)
     else {
-        return Next::Refuted(Rule::Target, i, 0);
+        return refuted(Rule::Target, i, 0);
     };
     Next::Queued(most)
 }

@@ -39,7 +39,7 @@ same-length-2 : tie.Need-same-length-2 Inv-loop μ-loop
 same-length-2 c = omega (arith, c .before .before .before .before .sheet2 .given, c .before .before .before .before .before .before .before .before .before .before .before .before .sheet .given, worklist.sheet-length _ _ _ _ (c .before .before .before .before .before .before .before .before .before .before .before .before .before .before .before .before .before .before .before .loop .inv .0 .list), worklist.sheet-length _ _ _ _ (c .before .before .before .before .before .before .before .before .before .before .before .before .before .before .before .before .before .before .before .before .before .before .pre .1 .list))
 
 returns-2 : tie.Need-returns-2 Inv-loop μ-loop
-returns-2 c = judged.walk-fails _ _ _ _ _ _ _ (c .before .before .before .before .before .walk .result) _ _ _ (c .before .rule .given .1) (c .before .before .before .before .before .walk .ensures)
+returns-2 c = judged.walk-fails _ _ _ _ _ _ _ (c .before .before .before .before .before .walk .result) _ (c .before .fault .given .1) (c .before .before .before .before .before .walk .ensures)
 
 loop-less : tie.Need-loop-less Inv-loop μ-loop
 loop-less c = let w = judged.walked _ _ _ _ _ _ _ (c .before .before .before .before .before .walk .result) _ _ (c .before .at .given .1) (c .before .before .before .before .before .walk .ensures) in omega (arith, w .1, c .before .before .before .before .before .before .before .before .before .before .before .before .before .before .before .before .before .before .loop-test .taken, worklist.queue-most _ _ _ _ (c .before .before .before .before .before .before .before .before .before .before .before .before .before .before .before .before .before .before .before .loop .inv .0 .list))

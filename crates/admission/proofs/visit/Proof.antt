@@ -17,13 +17,13 @@ sinks-requires : tie.Need-sinks-requires
 sinks-requires c κs = let f = visits.floor-asks _ _ _ _ (c .before .before .before .before .before .before .before .before .before .before .pre .1) _ (c .before .before .before .before .before .before .before .before .before .before .pre .2) _ (c .before .routine-of .ensures) in (c .before .before .before .before .before .before .before .before .before .before .pre .0, worklist.marked-inside _ _ _ _ (c .before .before .before .before .before .before .before .before .before .before .pre .1) _ (c .before .before .before .before .before .before .before .before .before .before .pre .2), worklist.record-inside _ _ _ _ (c .before .before .before .before .before .before .before .before .before .before .pre .1) _ (c .before .before .before .before .before .before .before .before .before .before .pre .2), f .0, f .1, f .2)
 
 returns : tie.Need-returns
-returns c = visits.too-low _ _ _ _ (c .before .before .before .before .before .before .before .before .before .before .before .before .pre .1) _ (c .before .before .before .before .before .before .before .before .before .before .before .before .pre .2) _ (c .before .before .before .routine-of .ensures) _ (c .before .sinks .ensures) (c .before .before .before .before .before .before .before .before .before .before .before .before .pre .4) (c .if1 .taken)
+returns c = worklist.tells _ _ _ _ _ _ _ _ _ _ (c .refuted2 .result) (c .refuted2 .ensures) (visits.too-low _ _ _ _ (c .before .before .before .before .before .before .before .before .before .before .before .before .before .pre .1) _ (c .before .before .before .before .before .before .before .before .before .before .before .before .before .pre .2) _ (c .before .before .before .before .routine-of .ensures) _ (c .before .before .sinks .ensures) (c .before .before .before .before .before .before .before .before .before .before .before .before .before .pre .4) (c .before .if1 .taken))
 
 follow-requires : tie.Need-follow-requires
 follow-requires c κs = let t = judged.tested _ _ _ (c .before .before .before .before .before .before .before .before .before .before .depths-after .result) (c .before .before .before .before .before .before .before .before .before .before .depths-after .ensures) _ _ _ (c .before .before .before .before .before .before .before .before .after .given .1) in (c .before .before .before .before .before .before .before .before .before .before .before .before .before .before .pre .1, c .before .before .before .before .before .before .before .before .before .before .before .before .before .before .pre .2, t .0, visits.is-above _ _ _ _ (c .before .before .before .before .before .before .before .before .before .before .before .before .before .before .pre .1) _ (c .before .before .before .before .before .before .before .before .before .before .before .before .before .before .pre .2) _ (c .before .before .before .before .before .routine-of .ensures) _ (c .before .before .before .sinks .ensures) (c .before .before .if1 .left), t .1, c .before .before .before .before .before .routine-of .ensures, c .before .before .before .before .before .before .before .before .before .before .before .before .before .before .pre .3, c .before .before .before .before .before .before .before .before .before .before .before .before .before .before .pre .4)
 
 returns-2 : tie.Need-returns-2
-returns-2 c = visits.told-alone _ _ _ _ (c .before .before .before .before .before .before .before .pre .1) _ (c .before .before .before .before .before .before .before .pre .2) _ (judged.fails _ _ _ (c .before .before .before .depths-after .result) _ (c .before .rule .given .1) (c .before .before .before .depths-after .ensures))
+returns-2 c = worklist.tells _ _ _ _ _ _ _ _ _ _ (c .refuted .result) (c .refuted .ensures) (visits.told-alone _ _ _ _ (c .before .before .before .before .before .before .before .before .pre .1) _ (c .before .before .before .before .before .before .before .before .pre .2) _ (judged.fails _ _ _ (c .before .before .before .before .depths-after .result) _ (c .before .before .rule .given .1) (c .before .before .before .before .depths-after .ensures)))
 
 returns-3 : tie.Need-returns-3
 returns-3 c = c .before .before .follow .ensures
@@ -34,9 +34,11 @@ visit-spec =
     (tie.spec
     depths-after-requires
     (λ c. search needs)
+    (λ c κs. search needs)
     (λ c. search needs)
     routine-of-requires
     sinks-requires
+    (λ c κs. search needs)
     (λ c. search needs)
     returns
     follow-requires

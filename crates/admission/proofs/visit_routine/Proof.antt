@@ -31,7 +31,7 @@ call-requires : tie.Need-call-requires
 call-requires c κs = let t = judged.tested _ _ _ (c .before .before .before .before .before .before .before .before .before .depths-after .result) (c .before .before .before .before .before .before .before .before .before .depths-after .ensures) _ _ _ (c .before .before .before .before .before .before .before .work .given .1) in let j = judged.is-call _ (rw (c .before .before .before .before .before .before .before .before .before .before .before .wide .ensures) (c .before .before .before .before .before .before .before .before .before .before .before .before .before .before .before .pre .2)) (c .before .before .before .before .if1 .left) in (c .before .before .before .before .before .before .before .before .before .before .before .before .before .before .before .pre .1, c .before .before .before .before .before .before .before .before .before .before .before .wide .ensures, t .0, visits.call-above _ _ _ _ (c .before .before .before .before .before .before .before .before .before .before .before .before .before .before .before .pre .1 .list) _ (returning.here _ _ _ _ _ _ _ (c .before .before .before .before .before .before .before .before .before .before .before .before .before .before .before .pre .1) _ (c .before .before .before .before .before .before .before .before .before .before .before .wide .ensures)) j, j)
 
 returns-2 : tie.Need-returns-2
-returns-2 c = visits.told-alone _ _ _ _ (c .before .before .before .before .before .before .before .before .before .pre .1 .list) _ (returning.here _ _ _ _ _ _ _ (c .before .before .before .before .before .before .before .before .before .pre .1) _ (c .before .before .before .before .before .wide .ensures)) _ (judged.fails _ _ _ (c .before .before .before .depths-after .result) _ (c .before .rule .given .1) (c .before .before .before .depths-after .ensures))
+returns-2 c = worklist.tells _ _ _ _ _ _ _ _ _ _ (c .refuted .result) (c .refuted .ensures) (visits.told-alone _ _ _ _ (c .before .before .before .before .before .before .before .before .before .before .pre .1 .list) _ (returning.here _ _ _ _ _ _ _ (c .before .before .before .before .before .before .before .before .before .before .pre .1) _ (c .before .before .before .before .before .before .wide .ensures)) _ (judged.fails _ _ _ (c .before .before .before .before .depths-after .result) _ (c .before .before .rule .given .1) (c .before .before .before .before .depths-after .ensures)))
 
 returns-3 : tie.Need-returns-3
 returns-3 c = c .before .before .call .ensures
@@ -45,6 +45,7 @@ visit-routine-spec =
     (λ c κs. search needs)
     depths-after-requires
     (λ c. search needs)
+    (λ c κs. search needs)
     (λ c. search needs)
     shared-slice-read-if1
     leave-requires

@@ -42,7 +42,7 @@ same-length-2 : tie.Need-same-length-2 Inv-loop μ-loop
 same-length-2 c = (c .before .before .before .before .sheet .given) ∙ worklist.sheet-length _ _ _ _ (c .before .before .before .before .before .before .before .before .before .before .before .before .before .before .loop .inv .list) ∙ sym (worklist.sheet-length _ _ _ _ (c .before .before .before .before .before .before .before .before .before .before .before .before .before .before .before .before .before .pre .1))
 
 returns-2 : tie.Need-returns-2 Inv-loop μ-loop
-returns-2 c = judged.refuted _ _ _ _ _ _ _ (c .before .before .before .before .before .visit .result) _ _ _ (c .before .rule .given .1) (c .before .before .before .before .before .visit .ensures)
+returns-2 c = judged.refuted _ _ _ _ _ _ _ (c .before .before .before .before .before .visit .result) _ (c .before .fault .given .1) (c .before .before .before .before .before .visit .ensures)
 
 add-head : tie.Need-add-head Inv-loop μ-loop
 add-head c = omega (arith, explored.walk-inside _ _ _ _ _ _ _ _ _ (c .before .before .before .before .before .before .before .before .before .before .before .before .before .before .loop .inv) (c .before .before .before .before .before .before .before .before .before .before .before .before .before .loop-test .taken))

@@ -14,7 +14,7 @@ reach-requires : tie.Need-reach-requires
 reach-requires c κs = returning.call-asks _ _ _ _ _ _ _ (c .before .before .before .before .before .pre .0) _ (c .before .before .before .before .before .pre .1) (c .before .before .before .before .before .pre .4) _ _ (c .before .before .before .before .before .pre .2) (c .before .before .before .before .before .pre .3) _ (c .before .before .jump-target .ensures)
 
 returns : tie.Need-returns
-returns c = returning.call-astray _ _ _ _ _ _ _ (c .before .before .before .before .before .before .before .before .before .before .pre .0) _ (c .before .before .before .before .before .before .before .before .before .before .pre .1) (c .before .before .before .before .before .before .before .before .before .before .pre .4) _ _ (c .before .before .before .before .before .before .before .before .before .before .pre .2) (c .before .before .before .before .before .before .before .before .before .before .pre .3) _ (c .before .before .before .before .before .before .before .jump-target .ensures) _ (worklist.is-astray _ _ _ _ _ _ _ _ _ _ (c .before .before .before .before .reach .result) (c .before .match .keys2) (c .before .before .before .before .reach .ensures))
+returns c = worklist.tells _ _ _ _ _ _ _ _ _ _ (c .refuted .result) (c .refuted .ensures) (returning.call-astray _ _ _ _ _ _ _ (c .before .before .before .before .before .before .before .before .before .before .before .pre .0) _ (c .before .before .before .before .before .before .before .before .before .before .before .pre .1) (c .before .before .before .before .before .before .before .before .before .before .before .pre .4) _ _ (c .before .before .before .before .before .before .before .before .before .before .before .pre .2) (c .before .before .before .before .before .before .before .before .before .before .before .pre .3) _ (c .before .before .before .before .before .before .before .before .jump-target .ensures) _ (worklist.is-astray _ _ _ _ _ _ _ _ _ _ (c .before .before .before .before .before .reach .result) (c .before .before .match .keys2) (c .before .before .before .before .before .reach .ensures)))
 
 sub-wide : tie.Need-sub-wide
 sub-wide c = returning.target-low _ _ _ _ _ _ _ (c .before .before .before .before .before .before .before .before .before .before .before .pre .0) _ (c .before .before .before .before .before .before .before .before .before .before .before .pre .1) (c .before .before .before .before .before .before .before .before .before .before .before .pre .4) _ _ (c .before .before .before .before .before .before .before .before .before .before .before .pre .2) (c .before .before .before .before .before .before .before .before .before .before .before .pre .3) _ (c .before .before .before .before .before .before .before .before .jump-target .ensures) _ _ _ (worklist.is-marked _ _ _ _ _ _ _ _ _ _ (c .before .before .before .before .before .reach .result) _ (c .before .more .given .1) (c .before .before .before .before .before .reach .ensures))
@@ -69,6 +69,7 @@ call-spec =
     reach-requires
     (λ c. search needs)
     (λ c. search needs)
+    (λ c κs. search needs)
     (λ c. search needs)
     returns
     sub-wide

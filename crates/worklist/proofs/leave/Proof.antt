@@ -33,7 +33,7 @@ slice-read-if1 : tie.Need-slice-read-if1
 slice-read-if1 c = omega (arith, returning.record-low _ _ _ _ _ _ _ (c .before .before .before .before .before .before .before .before .before .before .pre .0) _ (c .before .before .before .before .before .before .wide .ensures))
 
 returns : tie.Need-returns
-returns c = returning.off-floor _ _ _ _ _ _ _ (c .before .before .before .before .before .before .before .before .before .before .before .pre .0) _ (c .before .before .before .before .before .before .before .wide .ensures) (c .before .before .before .before .before .before .before .before .before .before .before .pre .1) (c .before .before .before .before .before .before .before .before .before .before .before .pre .2) _ (c .before .before .before .before .before .routine-of .ensures) _ (c .before .before .floor-of .ensures) (c .if1 .taken)
+returns c = worklist.tells _ _ _ _ _ _ _ _ _ _ (c .refuted .result) (c .refuted .ensures) (returning.off-floor _ _ _ _ _ _ _ (c .before .before .before .before .before .before .before .before .before .before .before .before .pre .0) _ (c .before .before .before .before .before .before .before .before .wide .ensures) (c .before .before .before .before .before .before .before .before .before .before .before .before .pre .1) (c .before .before .before .before .before .before .before .before .before .before .before .before .pre .2) _ (c .before .before .before .before .before .before .routine-of .ensures) _ (c .before .before .before .floor-of .ensures) (c .before .if1 .taken))
 
 mul-work : tie.Need-mul-work
 mul-work c = omega (arith, worklist.marked-inside _ _ _ _ (c .before .before .before .before .before .before .before .before .before .before .before .pre .0 .list) _ (returning.here _ _ _ _ _ _ _ (c .before .before .before .before .before .before .before .before .before .before .before .pre .0) _ (c .before .before .before .before .before .before .before .wide .ensures)), c .before .before .before .before .before .before .before .before .before .before .before .pre .0 .list .most)
@@ -63,7 +63,7 @@ returns-2 : tie.Need-returns-2
 returns-2 c = returning.known _ _ _ _ _ _ _ (c .before .before .before .before .before .before .before .before .before .before .before .before .before .before .before .before .before .pre .0) _ (c .before .before .before .before .before .before .before .before .before .before .before .before .before .wide .ensures) (c .before .before .before .before .before .before .before .before .before .before .before .before .before .before .before .before .before .pre .1) (c .before .before .before .before .before .before .before .before .before .before .before .before .before .before .before .before .before .pre .2) _ (c .before .before .before .before .before .before .before .before .before .before .before .routine-of .ensures) _ (c .before .before .before .before .before .before .before .before .floor-of .ensures) (c .before .before .before .before .before .before .if1 .left) _ (c .before .before .before .before .before .before .before .before .before .before .wide2 .ensures) (c .before .before .before .if2 .taken) _ (c .before .before .wide3 .ensures) (c .if3 .taken)
 
 returns-3 : tie.Need-returns-3
-returns-3 c = returning.another _ _ _ _ _ _ _ (c .before .before .before .before .before .before .before .before .before .before .before .before .before .before .before .before .before .pre .0) _ (c .before .before .before .before .before .before .before .before .before .before .before .before .before .wide .ensures) (c .before .before .before .before .before .before .before .before .before .before .before .before .before .before .before .before .before .pre .1) (c .before .before .before .before .before .before .before .before .before .before .before .before .before .before .before .before .before .pre .2) _ (c .before .before .before .before .before .before .before .before .before .before .before .routine-of .ensures) _ (c .before .before .before .before .before .before .before .before .floor-of .ensures) (c .before .before .before .before .before .before .if1 .left) _ (c .before .before .before .before .before .before .before .before .before .before .wide2 .ensures) (c .before .before .before .if2 .taken) _ (c .before .before .wide3 .ensures) (c .if3 .left)
+returns-3 c = worklist.tells _ _ _ _ _ _ _ _ _ _ (c .refuted2 .result) (c .refuted2 .ensures) (returning.another _ _ _ _ _ _ _ (c .before .before .before .before .before .before .before .before .before .before .before .before .before .before .before .before .before .before .pre .0) _ (c .before .before .before .before .before .before .before .before .before .before .before .before .before .before .wide .ensures) (c .before .before .before .before .before .before .before .before .before .before .before .before .before .before .before .before .before .before .pre .1) (c .before .before .before .before .before .before .before .before .before .before .before .before .before .before .before .before .before .before .pre .2) _ (c .before .before .before .before .before .before .before .before .before .before .before .before .routine-of .ensures) _ (c .before .before .before .before .before .before .before .before .before .floor-of .ensures) (c .before .before .before .before .before .before .before .if1 .left) _ (c .before .before .before .before .before .before .before .before .before .before .before .wide2 .ensures) (c .before .before .before .before .if2 .taken) _ (c .before .before .before .wide3 .ensures) (c .before .if3 .left))
 
 release-requires : tie.Need-release-requires
 release-requires c κs = returning.release-asks _ _ _ _ _ _ _ (c .before .before .before .before .before .before .before .before .before .before .before .before .before .before .before .before .before .pre .0) _ (c .before .before .before .before .before .before .before .before .before .before .before .before .before .wide .ensures) (c .before .before .before .before .before .before .before .before .before .before .before .before .before .before .before .before .before .pre .1) (c .before .before .before .before .before .before .before .before .before .before .before .before .before .before .before .before .before .pre .2) _ (c .before .before .before .before .before .before .before .before .before .before .before .routine-of .ensures) _ (c .before .before .before .before .before .before .before .before .floor-of .ensures) (c .before .before .before .before .before .before .if1 .left) _ (c .before .before .before .before .before .before .before .before .before .before .wide2 .ensures) (c .before .before .before .if2 .left)
@@ -97,6 +97,7 @@ leave-spec =
     mul-if1
     add-if1
     slice-read-if1
+    (λ c κs. search needs)
     (λ c. search needs)
     returns
     mul-work
@@ -110,6 +111,7 @@ leave-spec =
     slice-read-if3
     (λ c. search needs)
     returns-2
+    (λ c κs. search needs)
     (λ c. search needs)
     returns-3
     release-requires
