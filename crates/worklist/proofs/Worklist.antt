@@ -3,7 +3,7 @@ use mathlib.Core.Path.{_≡_, refl, sym, ap, _∙_}
 use mathlib.Core.Logic.{_⊎_, inl, inr}
 use mathlib.Core.Bool.{Bool, true, false, cond, true≢false}
 use mathlib.Core.List.{List, [], _∷_}
-use Prim.Native.Nat.{ℕ, _+_, _-_, _*_, _%_, _≤_, _<_}
+use Prim.Native.Nat.{ℕ, _+_, _-_, _*_, _≤_, _<_}
 use native.Mathlib.Decide.{ℕ-discrete}
 use native.Mathlib.Omega.{arith}
 use denote.Enum.Declared.{tagOf}
@@ -147,6 +147,9 @@ module _ (program sheet queue : List ℕ) (tail : ℕ) (list : Listed program sh
   -- a marked place is one of the program, and its record has its depths and its routine
   pub marked-inside : (i : ℕ) → Marks sheet (start + i) → i < length program
   marked-inside i m = omega (arith, goes-on (start + i) (m .0) (m .1) (m .2) (m .3) .0 .1)
+
+  pub marked-low : (i : ℕ) → Marks sheet (start + i) → i < admitMost
+  marked-low i m = omega (arith, marked-inside i m, list .most)
 
   pub marked-parts : (i : ℕ) → Marks sheet (start + i)
       → markIn sheet (start + i) ≡ marked (workAt sheet i) (retAt sheet i) (routineAt sheet i)
@@ -335,9 +338,7 @@ went-on program sheet queue tail sheet₁ queue₁ P n k e o = rw e at o
 pub tells : (program sheet queue : List ℕ) (tail : ℕ) (sheet₁ queue₁ : List ℕ) (P : Type 0) (rule : Rule) (i j : ℕ) (n : Next)
     → Refutes rule i j n → Told program sheet₁ rule i j → Outcome program sheet queue tail sheet₁ queue₁ P n
 tells program sheet queue tail sheet₁ queue₁ P rule i j (Next.Refuted n) e t =
-    let at : i % admitMost ≡ i = omega (arith, t .here, t .most) in
-    let other : j % admitMost ≡ j = omega (arith, t .there, t .most) in
-    rw (e .0, e .1, e .2, at, other) t
+    rw (e .0, e .1, e .2) t
 tells program sheet queue tail sheet₁ queue₁ P rule i j (Next.Queued k) e t = absurd e
 
 -- it fails from wherever the worklist came

@@ -224,7 +224,7 @@ ToldIn program sheet n = Told program sheet (ruleIn n) (placeIn n) (otherIn n)
 
 -- the number of a rule and two places
 abbrev pub Refutes : Rule → ℕ → ℕ → Next → Type 0
-Refutes rule i j (Next.Refuted n) = (ruleIn n ≡ rule) × (placeIn n ≡ i % admitMost) × (otherIn n ≡ j % admitMost)
+Refutes rule i j (Next.Refuted n) = (ruleIn n ≡ rule) × (placeIn n ≡ i) × (otherIn n ≡ j)
 Refutes rule i j (Next.Queued t) = ⊥
 
 -- A rule fails; or the worklist goes on, and P holds.

@@ -87,9 +87,10 @@ fn number_of(rule: Rule) -> usize
 // The rule fails at place i of the program; j is the place of a return of which it speaks too, or 0. They are one number, as the length of
 // the queue is, so that the loop of the visits has one register for either.
 pub fn refuted(rule: Rule, i: usize, j: usize) -> Next
+    requires { ⌜ (i < admitMost) × (j < admitMost) ⌝ }
     ensures { λ n. ⌜ Refutes rule i j n ⌝ }
 {
-    let places = i % PLACES + PLACES * (j % PLACES);
+    let places = i + PLACES * j;
     Next::Refuted(number_of(rule) + RULES * places)
 }
 

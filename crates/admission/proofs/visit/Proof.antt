@@ -10,11 +10,17 @@ use Rattle.admission.proofs.visit.Tie as tie
 depths-after-requires : tie.Need-depths-after-requires
 depths-after-requires c κs = (c .before .before .before .pre .0, worklist.marked-inside _ _ _ _ (c .before .before .before .pre .1) _ (c .before .before .before .pre .2), c .before .before .before .pre .1 .most, worklist.record-inside _ _ _ _ (c .before .before .before .pre .1) _ (c .before .before .before .pre .2))
 
+refuted-requires : tie.Need-refuted-requires
+refuted-requires c κs = (worklist.marked-low _ _ _ _ (c .before .before .before .before .before .before .before .pre .1) _ (c .before .before .before .before .before .before .before .pre .2), omega arith)
+
 routine-of-requires : tie.Need-routine-of-requires
 routine-of-requires c κs = omega (arith, worklist.record-inside _ _ _ _ (c .before .before .before .before .before .before .before .before .pre .1) _ (c .before .before .before .before .before .before .before .before .pre .2))
 
 sinks-requires : tie.Need-sinks-requires
 sinks-requires c κs = let f = visits.floor-asks _ _ _ _ (c .before .before .before .before .before .before .before .before .before .before .pre .1) _ (c .before .before .before .before .before .before .before .before .before .before .pre .2) _ (c .before .routine-of .ensures) in (c .before .before .before .before .before .before .before .before .before .before .pre .0, worklist.marked-inside _ _ _ _ (c .before .before .before .before .before .before .before .before .before .before .pre .1) _ (c .before .before .before .before .before .before .before .before .before .before .pre .2), worklist.record-inside _ _ _ _ (c .before .before .before .before .before .before .before .before .before .before .pre .1) _ (c .before .before .before .before .before .before .before .before .before .before .pre .2), f .0, f .1, f .2)
+
+refuted-requires-2 : tie.Need-refuted-requires-2
+refuted-requires-2 c κs = (worklist.marked-low _ _ _ _ (c .before .before .before .before .before .before .before .before .before .before .before .before .pre .1) _ (c .before .before .before .before .before .before .before .before .before .before .before .before .pre .2), omega arith)
 
 returns : tie.Need-returns
 returns c = worklist.tells _ _ _ _ _ _ _ _ _ _ (c .refuted2 .result) (c .refuted2 .ensures) (visits.too-low _ _ _ _ (c .before .before .before .before .before .before .before .before .before .before .before .before .before .pre .1) _ (c .before .before .before .before .before .before .before .before .before .before .before .before .before .pre .2) _ (c .before .before .before .before .routine-of .ensures) _ (c .before .before .sinks .ensures) (c .before .before .before .before .before .before .before .before .before .before .before .before .before .pre .4) (c .before .if1 .taken))
@@ -34,11 +40,11 @@ visit-spec =
     (tie.spec
     depths-after-requires
     (λ c. search needs)
-    (λ c κs. search needs)
+    refuted-requires
     (λ c. search needs)
     routine-of-requires
     sinks-requires
-    (λ c κs. search needs)
+    refuted-requires-2
     (λ c. search needs)
     returns
     follow-requires

@@ -18,6 +18,9 @@ element-copy-out-wide c = omega (arith, returning.head-inside _ _ _ _ _ _ _ (c .
 depths-after-requires : tie.Need-depths-after-requires
 depths-after-requires c κs = (c .before .before .before .before .before .pre .0, worklist.marked-inside _ _ _ _ (c .before .before .before .before .before .pre .1 .list) _ (returning.here _ _ _ _ _ _ _ (c .before .before .before .before .before .pre .1) _ (c .before .wide .ensures)), c .before .before .before .before .before .pre .1 .list .most, worklist.record-inside _ _ _ _ (c .before .before .before .before .before .pre .1 .list) _ (returning.here _ _ _ _ _ _ _ (c .before .before .before .before .before .pre .1) _ (c .before .wide .ensures)))
 
+refuted-requires : tie.Need-refuted-requires
+refuted-requires c κs = (worklist.marked-low _ _ _ _ (c .before .before .before .before .before .before .before .before .before .pre .1 .list) _ (returning.here _ _ _ _ _ _ _ (c .before .before .before .before .before .before .before .before .before .pre .1) _ (c .before .before .before .before .before .wide .ensures)), omega arith)
+
 shared-slice-read-if1 : tie.Need-shared-slice-read-if1
 shared-slice-read-if1 c = worklist.marked-inside _ _ _ _ (c .before .before .before .before .before .before .before .before .before .before .pre .1 .list) _ (returning.here _ _ _ _ _ _ _ (c .before .before .before .before .before .before .before .before .before .before .pre .1) _ (c .before .before .before .before .before .before .wide .ensures))
 
@@ -45,7 +48,7 @@ visit-routine-spec =
     (λ c κs. search needs)
     depths-after-requires
     (λ c. search needs)
-    (λ c κs. search needs)
+    refuted-requires
     (λ c. search needs)
     shared-slice-read-if1
     leave-requires

@@ -13,6 +13,9 @@ jump-target-requires c κs = visits.jsi-inside _ _ _ _ (c .before .before .pre .
 reach-requires : tie.Need-reach-requires
 reach-requires c κs = returning.call-asks _ _ _ _ _ _ _ (c .before .before .before .before .before .pre .0) _ (c .before .before .before .before .before .pre .1) (c .before .before .before .before .before .pre .4) _ _ (c .before .before .before .before .before .pre .2) (c .before .before .before .before .before .pre .3) _ (c .before .before .jump-target .ensures)
 
+refuted-requires : tie.Need-refuted-requires
+refuted-requires c κs = (worklist.marked-low _ _ _ _ (c .before .before .before .before .before .before .before .before .before .before .pre .0 .list) _ (returning.here _ _ _ _ _ _ _ (c .before .before .before .before .before .before .before .before .before .before .pre .0) _ (c .before .before .before .before .before .before .before .before .before .before .pre .1)), omega arith)
+
 returns : tie.Need-returns
 returns c = worklist.tells _ _ _ _ _ _ _ _ _ _ (c .refuted .result) (c .refuted .ensures) (returning.call-astray _ _ _ _ _ _ _ (c .before .before .before .before .before .before .before .before .before .before .before .pre .0) _ (c .before .before .before .before .before .before .before .before .before .before .before .pre .1) (c .before .before .before .before .before .before .before .before .before .before .before .pre .4) _ _ (c .before .before .before .before .before .before .before .before .before .before .before .pre .2) (c .before .before .before .before .before .before .before .before .before .before .before .pre .3) _ (c .before .before .before .before .before .before .before .before .jump-target .ensures) _ (worklist.is-astray _ _ _ _ _ _ _ _ _ _ (c .before .before .before .before .before .reach .result) (c .before .before .match .keys2) (c .before .before .before .before .before .reach .ensures)))
 
@@ -69,7 +72,7 @@ call-spec =
     reach-requires
     (λ c. search needs)
     (λ c. search needs)
-    (λ c κs. search needs)
+    refuted-requires
     (λ c. search needs)
     returns
     sub-wide

@@ -32,6 +32,9 @@ add-if1 c = omega (arith, worklist.marked-inside _ _ _ _ (c .before .before .bef
 slice-read-if1 : tie.Need-slice-read-if1
 slice-read-if1 c = omega (arith, returning.record-low _ _ _ _ _ _ _ (c .before .before .before .before .before .before .before .before .before .before .pre .0) _ (c .before .before .before .before .before .before .wide .ensures))
 
+refuted-requires : tie.Need-refuted-requires
+refuted-requires c κs = (worklist.marked-low _ _ _ _ (c .before .before .before .before .before .before .before .before .before .before .before .pre .0 .list) _ (returning.here _ _ _ _ _ _ _ (c .before .before .before .before .before .before .before .before .before .before .before .pre .0) _ (c .before .before .before .before .before .before .before .wide .ensures)), omega arith)
+
 returns : tie.Need-returns
 returns c = worklist.tells _ _ _ _ _ _ _ _ _ _ (c .refuted .result) (c .refuted .ensures) (returning.off-floor _ _ _ _ _ _ _ (c .before .before .before .before .before .before .before .before .before .before .before .before .pre .0) _ (c .before .before .before .before .before .before .before .before .wide .ensures) (c .before .before .before .before .before .before .before .before .before .before .before .before .pre .1) (c .before .before .before .before .before .before .before .before .before .before .before .before .pre .2) _ (c .before .before .before .before .before .before .routine-of .ensures) _ (c .before .before .before .floor-of .ensures) (c .before .if1 .taken))
 
@@ -61,6 +64,9 @@ slice-read-if3 c = omega (arith, returning.other-record _ _ _ _ _ _ _ (c .before
 
 returns-2 : tie.Need-returns-2
 returns-2 c = returning.known _ _ _ _ _ _ _ (c .before .before .before .before .before .before .before .before .before .before .before .before .before .before .before .before .before .pre .0) _ (c .before .before .before .before .before .before .before .before .before .before .before .before .before .wide .ensures) (c .before .before .before .before .before .before .before .before .before .before .before .before .before .before .before .before .before .pre .1) (c .before .before .before .before .before .before .before .before .before .before .before .before .before .before .before .before .before .pre .2) _ (c .before .before .before .before .before .before .before .before .before .before .before .routine-of .ensures) _ (c .before .before .before .before .before .before .before .before .floor-of .ensures) (c .before .before .before .before .before .before .if1 .left) _ (c .before .before .before .before .before .before .before .before .before .before .wide2 .ensures) (c .before .before .before .if2 .taken) _ (c .before .before .wide3 .ensures) (c .if3 .taken)
+
+refuted-requires-2 : tie.Need-refuted-requires-2
+refuted-requires-2 c κs = (worklist.marked-low _ _ _ _ (c .before .before .before .before .before .before .before .before .before .before .before .before .before .before .before .before .before .pre .0 .list) _ (returning.here _ _ _ _ _ _ _ (c .before .before .before .before .before .before .before .before .before .before .before .before .before .before .before .before .before .pre .0) _ (c .before .before .before .before .before .before .before .before .before .before .before .before .before .wide .ensures)), omega (arith, returning.other-inside _ _ _ _ _ _ _ (c .before .before .before .before .before .before .before .before .before .before .before .before .before .before .before .before .before .pre .0) _ (c .before .before .before .before .before .before .before .before .before .before .before .before .before .wide .ensures) (c .before .before .before .before .before .before .before .before .before .before .before .before .before .before .before .before .before .pre .1) (c .before .before .before .before .before .before .before .before .before .before .before .before .before .before .before .before .before .pre .2) _ (c .before .before .before .before .before .before .before .before .before .before .before .routine-of .ensures) _ (c .before .before .before .before .before .before .before .before .floor-of .ensures) (c .before .before .before .before .before .before .if1 .left) _ (c .before .before .before .before .before .before .before .before .before .before .wide2 .ensures) (c .before .before .before .if2 .taken) _ (c .before .before .wide3 .ensures), c .before .before .before .before .before .before .before .before .before .before .before .before .before .before .before .before .before .pre .0 .list .most))
 
 returns-3 : tie.Need-returns-3
 returns-3 c = worklist.tells _ _ _ _ _ _ _ _ _ _ (c .refuted2 .result) (c .refuted2 .ensures) (returning.another _ _ _ _ _ _ _ (c .before .before .before .before .before .before .before .before .before .before .before .before .before .before .before .before .before .before .pre .0) _ (c .before .before .before .before .before .before .before .before .before .before .before .before .before .before .wide .ensures) (c .before .before .before .before .before .before .before .before .before .before .before .before .before .before .before .before .before .before .pre .1) (c .before .before .before .before .before .before .before .before .before .before .before .before .before .before .before .before .before .before .pre .2) _ (c .before .before .before .before .before .before .before .before .before .before .before .before .routine-of .ensures) _ (c .before .before .before .before .before .before .before .before .before .floor-of .ensures) (c .before .before .before .before .before .before .before .if1 .left) _ (c .before .before .before .before .before .before .before .before .before .before .before .wide2 .ensures) (c .before .before .before .before .if2 .taken) _ (c .before .before .before .wide3 .ensures) (c .before .if3 .left))
@@ -97,7 +103,7 @@ leave-spec =
     mul-if1
     add-if1
     slice-read-if1
-    (λ c κs. search needs)
+    refuted-requires
     (λ c. search needs)
     returns
     mul-work
@@ -111,7 +117,7 @@ leave-spec =
     slice-read-if3
     (λ c. search needs)
     returns-2
-    (λ c κs. search needs)
+    refuted-requires-2
     (λ c. search needs)
     returns-3
     release-requires

@@ -25,15 +25,16 @@ returns : tie.Need-returns
 unfolding ruleIn placeIn otherIn
 returns c =
     let low = c .number-of .ensures .0 in
-    (ap ruleOf (first _ _ _ low (omega arith)) ∙ c .number-of .ensures .1, second _ _ _ low (omega arith), third _ _ _ low (omega arith))
+    let small = c .before .pre .0 in
+    (ap ruleOf (first _ _ _ low small) ∙ c .number-of .ensures .1, second _ _ _ low small, third _ _ _ low small)
 
 pub refuted-spec : {M : Type 1} → statement M
 refuted-spec =
     tie.close
     (tie.spec
-    (λ c. omega arith)
-    (λ c. omega arith)
+    (λ c. omega (arith, c .pre .1))
+    (λ c. omega (arith, c .pre .0, c .pre .1))
     (λ c κs. search needs)
-    (λ c. omega (arith, c .number-of .ensures .0))
-    (λ c. omega (arith, c .number-of .ensures .0))
+    (λ c. omega (arith, c .number-of .ensures .0, c .before .pre .0, c .before .pre .1))
+    (λ c. omega (arith, c .number-of .ensures .0, c .before .pre .0, c .before .pre .1))
     returns)
