@@ -14,7 +14,7 @@ use Rattle.model.specs.Admission.Way.{begin}
 use Rattle.model.proofs.Reached.{begun, begun-first, begun-cases, along, assigned-closed}
 use Rattle.model.proofs.Rules.{marked-at, successors-by}
 use Rattle.model.proofs.Sheet.{length-sheet, mark-in, record-is}
-use Rattle.worklist.specs.Worklist.{Marks, Obeyed, Listed, Extended, placed, Calls, Returned, Waiting, Visit, Visited}
+use Rattle.worklist.specs.Worklist.{Marks, Obeyed, Listed, Extended, placed, Calls, HasReturn, Waiting, Visit, Visited}
 use Rattle.worklist.proofs.Sheets.{withMark, sheet-set}
 use Rattle.worklist.proofs.Returns.{other-visited}
 use Rattle.worklist.proofs.Waits.{same-return}
@@ -232,7 +232,7 @@ module _ (program sheet queue routines before : List ℕ) (head tail : ℕ) (g :
       rw (c .2) (g .visited (c .0) (omega (arith, c .1)) w r q (rw (c .2) at e))
 
   -- the array has a return with the working depth of each
-  depth-is : (q v : ℕ) → Leaves program (markIn sheet) q v → Returned program sheet routines q v
+  depth-is : (q v : ℕ) → Leaves program (markIn sheet) q v → HasReturn program sheet routines q v
   depth-is q v x =
       let c = list .covers (x .at) v (x .ret) q (x .here) in
       waiting .returned (c .0) v (x .ret) q (omega (arith, c .1)) (rw (c .2) at (x .here)) (rw (c .2) at (x .returns))

@@ -12,7 +12,9 @@ use table::RETURNING;
 use table::WORKING;
 use table::entry;
 use table::table;
+use worklist::JSI;
 use worklist::Next;
+use worklist::RETURN;
 use worklist::Rule;
 use worklist::SHEET_RECORD;
 use worklist::START;
@@ -42,11 +44,6 @@ ghost use Rattle.admission.specs.Explored.{Judged, OfRoutines, Going, Me
 
 // "above 4,096 bytes" a program is not admitted.
 const ADMIT_MOST: usize = 4096;
-
-const JSI: u8 = 0x60;
-
-// JMP in 16-bit return form without keep.
-const RETURN: u8 = 0x6C;
 
 // ---- the sheet
 

@@ -10,12 +10,12 @@ ghost use Prim.Native.Nat.{_≤_};
 ghost use lib.ListN.{length, take};
 ghost use Rattle.io.specs.Counts.{Counts};
 ghost use Rattle.why.specs.Explained.{explainMost};
-ghost use Rattle.explain.specs.Told.{Told};
+ghost use Rattle.explain.specs.Line.{LineOf};
 
 // The line of the program, at the start of `line`, and how many bytes it has.
 fn tell(program: &[u8], line: &mut [u8]) -> usize
     requires { ⌜ explainMost ≤ length (now line) ⌝ }
-    ensures { λ r. ⌜ Counts r (now (line .exit)) × Told (now (program .entry)) (take r (now (line .exit))) ⌝ }
+    ensures { λ r. ⌜ Counts r (now (line .exit)) × LineOf (now (program .entry)) (take r (now (line .exit))) ⌝ }
 {
     let reply = admission::explain(program);
     put_explained(line, 0, program, reply)

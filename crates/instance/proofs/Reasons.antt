@@ -9,7 +9,7 @@ use Rattle.model.specs.Bytes.Among.{here, there}
 use Rattle.model.specs.Machine.{start}
 use Rattle.model.specs.Admission.{all, ruleTests}
 use Rattle.model.specs.Admission.Way.{begin, go, return}
-use Rattle.model.specs.Reasons.{Passes, Sound, WayTo, Stands, True}
+use Rattle.model.specs.Reasons.{Passes, Passable, WayTo, Stands, True}
 use Rattle.model.specs.declared.Place.{Place}
 use Rattle.model.specs.declared.Reason.{Reason}
 use Rattle.model.proofs.Computing.{admitting}
@@ -38,9 +38,9 @@ passes program at w r l t =
     }
 
 -- at a place in the program
-stands : (program : List ℕ) (p : Place) (way : WayTo program p) → Sound way → T (leb start (p .at)) → T (ltb (p .at) (start + length program))
+stands : (program : List ℕ) (p : Place) (way : WayTo program p) → Passable way → T (leb start (p .at)) → T (ltb (p .at) (start + length program))
     → Stands program p
-stands program p way sound low high = (way, sound, (leb→le _ _ low, ltb→lt _ _ high))
+stands program p way passable low high = (way, passable, (leb→le _ _ low, ltb→lt _ _ high))
 
 -- ---- one instruction
 

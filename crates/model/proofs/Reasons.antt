@@ -9,7 +9,7 @@ use Rattle.model.specs.Machine.{start}
 use Rattle.model.specs.Admission.{Mark, byteAt, allowed, targetOf, successors, Way, GoesOn, Leaves, floor, retOf, Rules, Assignment}
 use Rattle.model.specs.Admission.Mark.{marked}
 use Rattle.model.specs.Admission.Way.{begin, go, return}
-use Rattle.model.specs.Reasons.{Sound, WayTo, Entry, Returns, True, Refuting}
+use Rattle.model.specs.Reasons.{Passable, WayTo, Entry, Returns, True, Refuting}
 use Rattle.model.specs.declared.Place.{Place}
 use Rattle.model.specs.declared.Reason.{Reason}
 use Rattle.model.proofs.Bytes.{among-every}
@@ -76,7 +76,7 @@ true-refutes program (Reason.ReturnsDiffer p other) t a =
 abbrev pops : List ℕ
 pops = 0x02 ∷ 0x02 ∷ []
 
-at-first : {at w r q : ℕ} (way : Way pops at w r q) → Sound way → (at ≡ start) × (w ≡ 0)
+at-first : {at w r q : ℕ} (way : Way pops at w r q) → Passable way → (at ≡ start) × (w ≡ 0)
 unfolding admitting
 at-first begin t = (refl, refl)
 at-first (go way among) t =

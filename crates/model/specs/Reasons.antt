@@ -36,11 +36,11 @@ pub record Passes (program : List ℕ) (at w r : ℕ) : Type 0 where
   pub retTop : depthAfter returning (byteAt program at) r ≤ 255
 
 -- each step of the way is one of an instruction that passes; C-19: of a call and of a return
-abbrev pub Sound : {program : List ℕ} {at w r q : ℕ} → Way program at w r q → Type 0
-Sound begin = Unit {0}
-Sound {program} (go {at} {w} {r} way among) = Sound way × Passes program at w r
-Sound {program} (return {at} {w} {r} {q} {to} {v} {s} call jsi end leave) =
-    Sound call × Passes program at w r × Sound end × Passes program to v s
+abbrev pub Passable : {program : List ℕ} {at w r q : ℕ} → Way program at w r q → Type 0
+Passable begin = Unit {0}
+Passable {program} (go {at} {w} {r} way among) = Passable way × Passes program at w r
+Passable {program} (return {at} {w} {r} {q} {to} {v} {s} call jsi end leave) =
+    Passable call × Passes program at w r × Passable end × Passes program to v s
 
 -- where its last step comes from; C-19: from the call, where a routine returns
 abbrev pub cameFrom : {program : List ℕ} {at w r q : ℕ} → Way program at w r q → ℕ × Mark
@@ -51,8 +51,8 @@ cameFrom (return {at} {w} {r} {q} call jsi end leave) = (at, marked w r q)
 -- ---- places
 
 -- the instruction there
-abbrev pub byteOf : List ℕ → Place → ℕ
-byteOf program p = byteAt program (p .at)
+abbrev pub byteThere : List ℕ → Place → ℕ
+byteThere program p = byteAt program (p .at)
 
 -- a way leads there
 abbrev pub WayTo : List ℕ → Place → Type 0
@@ -60,12 +60,12 @@ WayTo program p = Way program (p .at) (p .work) (p .ret) (p .routine)
 
 -- "the address is reached from 0100 with those depths", and is in the program
 abbrev pub Stands : List ℕ → Place → Type 0
-Stands program p = (way : WayTo program p) × Sound way × Within program (p .at)
+Stands program p = (way : WayTo program p) × Passable way × Within program (p .at)
 
 -- a way leads there from the instruction at p
 abbrev pub GoesTo : List ℕ → Place → Place → Type 0
 GoesTo program p next =
-    (way : WayTo program next) × Sound way × (cameFrom way ≡ (p .at, marked (p .work) (p .ret) (p .routine)))
+    (way : WayTo program next) × Passable way × (cameFrom way ≡ (p .at, marked (p .work) (p .ret) (p .routine)))
 
 -- C-19: a routine's own address, in it: the return depth there is its floor
 abbrev pub Entry : List ℕ → ℕ → Place → Type 0
@@ -73,7 +73,7 @@ Entry program q p = Stands program p × (p .at ≡ q) × (p .routine ≡ q)
 
 -- C-19: a return
 abbrev pub Returns : List ℕ → Place → Type 0
-Returns program p = Stands program p × (byteOf program p ≡ 0x6C)
+Returns program p = Stands program p × (byteThere program p ≡ 0x6C)
 
 -- the same depths and the same routine
 abbrev pub Alike : Place → Place → Type 0
@@ -84,24 +84,24 @@ Alike p next = (p .work ≡ next .work) × (p .ret ≡ next .ret) × (p .routine
 abbrev pub True : List ℕ → Reason → Type 0
 -- not: "the whole instruction lies in the program"
 True program (Reason.Cut p n) =
-    Stands program p × (n ≡ lengthOf (byteOf program p)) × (start + length program < p .at + n)
+    Stands program p × (n ≡ lengthOf (byteThere program p)) × (start + length program < p .at + n)
 -- not: "it is none of .."
-True program (Reason.Forbidden p) = Stands program p × T (not (allowed (byteOf program p)))
+True program (Reason.Forbidden p) = Stands program p × T (not (allowed (byteThere program p)))
 -- not: "each stack holds the bytes that it takes, keep or not"
-True program (Reason.FewWorking p n) = Stands program p × (n ≡ takenFrom working (byteOf program p)) × (p .work < n)
-True program (Reason.FewReturn p n) = Stands program p × (n ≡ takenFrom returning (byteOf program p)) × (p .ret < n)
+True program (Reason.FewWorking p n) = Stands program p × (n ≡ takenFrom working (byteThere program p)) × (p .work < n)
+True program (Reason.FewReturn p n) = Stands program p × (n ≡ takenFrom returning (byteThere program p)) × (p .ret < n)
 -- not: C-19, "In it only 6C takes return bytes below the floor"
 True program (Reason.BelowFloor p n entry) =
     Stands program p
-    × (byteOf program p ≡ 0x6C → ⊥)
-    × (n ≡ takenFrom returning (byteOf program p))
+    × (byteThere program p ≡ 0x6C → ⊥)
+    × (n ≡ takenFrom returning (byteThere program p))
     × Entry program (p .routine) entry
     × (p .ret < entry .ret + n)
 -- not: "and no depth after it is above 255"
 True program (Reason.ManyWorking p n) =
-    Stands program p × (n ≡ depthAfter working (byteOf program p) (p .work)) × (255 < n)
+    Stands program p × (n ≡ depthAfter working (byteThere program p) (p .work)) × (255 < n)
 True program (Reason.ManyReturn p n) =
-    Stands program p × (n ≡ depthAfter returning (byteOf program p) (p .ret)) × (255 < n)
+    Stands program p × (n ≡ depthAfter returning (byteThere program p) (p .ret)) × (255 < n)
 -- not: "each address where it may go on .. is in the program"
 True program (Reason.Outside p next) = Stands program p × GoesTo program p next × (Within program (next .at) → ⊥)
 -- not: "and marked with the depths after it", since another way gives it others; C-19: or another routine, "No address has two routines"

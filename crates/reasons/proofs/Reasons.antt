@@ -12,7 +12,7 @@ use borrow.Author.Tests.{eqb-true, ne-eqb}
 use Rattle.model.specs.Machine.{start}
 use Rattle.model.specs.Instruction.{working, returning, takenFrom, lengthOf}
 use Rattle.model.specs.Admission.{admitMost, byteAt, targetOf, depthAfter, Assignable, sheetRecord}
-use Rattle.model.specs.Reasons.{Stands, True}
+use Rattle.model.specs.Reasons.{Passes, Stands, True}
 use Rattle.model.specs.declared.Place.{Place}
 use Rattle.model.specs.declared.Reason.{Reason}
 use Rattle.model.proofs.Reasons.{true-refutes}
@@ -160,21 +160,18 @@ module _ (program sheet : List ℕ) (rule : Rule) (i j : ℕ) (told : Told progr
     -- ---- it goes on where it is astray
 
     -- the depths after it
-    next-asks : (takenFrom working (byteAt program (start + i)) ≤ workAt sheet i)
-        → (takenFrom returning (byteAt program (start + i)) ≤ retAt sheet i)
-        → (depthAfter working (byteAt program (start + i)) (workAt sheet i) ≤ 255) → (depthAfter returning (byteAt program (start + i)) (retAt sheet i) ≤ 255)
-        → (takenFrom working byte ≤ p .work) × (takenFrom returning byte ≤ p .ret) × (depthAfter working byte (p .work) ≤ 255) × (depthAfter returning byte (p .ret) ≤ 255)
-    next-asks a b c d = rw (work-is, ret-is, ← byte-is program i) (a, b, c, d)
-
     abbrev Asks : Type 0
     Asks =
         (takenFrom working byte ≤ p .work) × (takenFrom returning byte ≤ p .ret) × (depthAfter working byte (p .work) ≤ 255) × (depthAfter returning byte (p .ret) ≤ 255)
 
+    next-asks : Passes program (start + i) (workAt sheet i) (retAt sheet i) → Asks
+    next-asks x = rw (work-is, ret-is, ← byte-is program i) (x .work, x .ret, x .workTop, x .retTop)
+
     pub after-asks : rule ≡ Rule.After → Asks
-    after-asks e = let x = fails Rule.After e .0 in next-asks (x .work) (x .ret) (x .workTop) (x .retTop)
+    after-asks e = next-asks (fails Rule.After e .0)
 
     pub target-asks : rule ≡ Rule.Target → Asks
-    target-asks e = let x = fails Rule.Target e .0 in next-asks (x .work) (x .ret) (x .workTop) (x .retTop)
+    target-asks e = next-asks (fails Rule.Target e .0)
 
     -- the instruction lies in the program
     pub after-inside : rule ≡ Rule.After → i + lengthOf byte ≤ length program

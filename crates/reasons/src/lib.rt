@@ -7,7 +7,9 @@ use table::LENGTH;
 use table::RETURNING;
 use table::WORKING;
 use table::entry;
+use worklist::JSI;
 use worklist::PLACES;
+use worklist::RETURN;
 use worklist::RULES;
 use worklist::Rule;
 use worklist::SHEET_RECORD;
@@ -23,11 +25,6 @@ ghost use Rattle.model.specs.Admission.{admitMost, depthAfter, sheetRecord};
 ghost use Rattle.model.specs.Reasons.{Stands, True};
 ghost use Rattle.worklist.specs.Worklist.{placeAt, Lost, Told, ToldIn};
 ghost use Rattle.reasons.specs.Next.{nextPlace};
-
-const JSI: u8 = 0x60;
-
-// JMP in 16-bit return form without keep.
-const RETURN: u8 = 0x6C;
 
 // Place i of the program, with the depths and the routine of its record.
 fn place_of(sheet: &[u8], i: usize) -> Place

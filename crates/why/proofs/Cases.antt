@@ -11,7 +11,7 @@ use Rattle.model.specs.declared.Place.{Place}
 use Rattle.model.specs.declared.Reason.{Reason}
 use Rattle.model.specs.declared.ExplainReply.{ExplainReply}
 use Rattle.text.specs.Lines.{decimal, refusedLine}
-use Rattle.words.specs.Words.{text, joined, number, count, hex, name}
+use Rattle.words.specs.Words.{text, joined, digits, count, hex, name}
 use Rattle.why.specs.Explained.{takes, leaves, returnsWith, inRoutine, withDepths, otherWay, isCut, takesBelow, goesOutside, waysDiffer, returnsOffFloor, returnsDiffer, sentence, placeOf, becauseLine, explainLine}
 
 pub record Case : Type 0 where
@@ -62,5 +62,5 @@ lines =
     ∷ []
 
 pub lines-are : map (λ (c : Case). explainLine (c .program) (c .reply)) lines ≡ map (λ (c : Case). text (c .line)) lines
-unfolding explainLine becauseLine placeOf sentence takes leaves returnsWith inRoutine withDepths otherWay isCut takesBelow goesOutside waysDiffer returnsOffFloor returnsDiffer joined number count hex name decimal refusedLine wide returnMode keepMode byteAt lines
+unfolding explainLine becauseLine placeOf sentence takes leaves returnsWith inRoutine withDepths otherWay isCut takesBelow goesOutside waysDiffer returnsOffFloor returnsDiffer joined digits count hex name decimal refusedLine wide returnMode keepMode byteAt lines
 lines-are = refl

@@ -5,12 +5,12 @@ use Prim.Native.Nat.{ℕ, _+_, _-_, _%_}
 use lib.Dec.{eqb}
 use lib.ListN.{length}
 use Rattle.model.specs.Machine.{memorySize, start}
-use Rattle.model.specs.Reasons.{byteOf}
+use Rattle.model.specs.Reasons.{byteThere}
 use Rattle.model.specs.declared.Place.{Place}
 use Rattle.model.specs.declared.Reason.{Reason}
 use Rattle.model.specs.declared.ExplainReply.{ExplainReply}
 use Rattle.text.specs.Lines.{refusedLine, lineFeed}
-use Rattle.words.specs.Words.{text, joined, number, count, hex, name}
+use Rattle.words.specs.Words.{text, joined, digits, count, hex, name}
 
 -- ---- of the program
 
@@ -27,7 +27,7 @@ lastOf program = (start + length program - 1) % memorySize
 -- " takes 1 byte of the working stack, which holds 0"
 unfoldable pub takes : ℕ → List ℕ → ℕ → List ℕ
 takes n stack holds =
-    joined (text " takes " ∷ count n ∷ text " of the " ∷ stack ∷ text " stack, which holds " ∷ number holds ∷ [])
+    joined (text " takes " ∷ count n ∷ text " of the " ∷ stack ∷ text " stack, which holds " ∷ digits holds ∷ [])
 
 -- " leaves 256 bytes on the working stack, which has room for 255"
 unfoldable pub leaves : ℕ → List ℕ → List ℕ
@@ -37,7 +37,7 @@ leaves n stack =
 -- " returns from routine 0104 with return depth 3"
 unfoldable pub returnsWith : ℕ → List ℕ → ℕ → List ℕ
 returnsWith routine stack depth =
-    joined (text " returns from routine " ∷ hex routine ∷ text " with " ∷ stack ∷ text " depth " ∷ number depth ∷ [])
+    joined (text " returns from routine " ∷ hex routine ∷ text " with " ∷ stack ∷ text " depth " ∷ digits depth ∷ [])
 
 -- " in routine 0104", if the other routine is another one
 unfoldable pub inRoutine : ℕ → ℕ → List ℕ
@@ -46,13 +46,13 @@ inRoutine routine other = cond (eqb routine other) [] (joined (text " in routine
 -- " with working depth 1 and return depth 0"; with the routine, if the other one is another
 unfoldable pub withDepths : Place → ℕ → List ℕ
 withDepths next other =
-    joined (text " with working depth " ∷ number (next .work) ∷ text " and return depth " ∷ number (next .ret)
+    joined (text " with working depth " ∷ digits (next .work) ∷ text " and return depth " ∷ digits (next .ret)
     ∷ inRoutine (next .routine) other ∷ [])
 
 -- ", and another way there has 0 and 0"; with the routine, if the next one is another
 unfoldable pub otherWay : Place → ℕ → List ℕ
 otherWay other next =
-    joined (text ", and another way there has " ∷ number (other .work) ∷ text " and " ∷ number (other .ret)
+    joined (text ", and another way there has " ∷ digits (other .work) ∷ text " and " ∷ digits (other .ret)
     ∷ inRoutine (other .routine) next ∷ [])
 
 -- room for every one of these
@@ -64,12 +64,12 @@ partMost = 70
 -- " is 3 bytes long, and the program ends after 2 of them"
 unfoldable pub isCut : ℕ → ℕ → List ℕ
 isCut n rest =
-    joined (text " is " ∷ count n ∷ text " long, and the program ends after " ∷ number rest ∷ text " of them" ∷ [])
+    joined (text " is " ∷ count n ∷ text " long, and the program ends after " ∷ digits rest ∷ text " of them" ∷ [])
 
 -- " takes 1 byte of the return stack, which holds 2, and 2 of them belong to the callers of routine 0104"
 unfoldable pub takesBelow : ℕ → ℕ → ℕ → ℕ → List ℕ
 takesBelow n holds floor routine =
-    joined (takes n (text "return") holds ∷ text ", and " ∷ number floor
+    joined (takes n (text "return") holds ∷ text ", and " ∷ digits floor
     ∷ text " of them belong to the callers of routine " ∷ hex routine ∷ [])
 
 -- " goes on to 0203, outside the program, which is 0100 to 0102"
@@ -88,13 +88,13 @@ waysDiffer next other =
 unfoldable pub returnsOffFloor : Place → Place → List ℕ
 returnsOffFloor p entry =
     joined (returnsWith (p .routine) (text "return") (p .ret) ∷ text ", and it was entered with "
-    ∷ number (entry .ret) ∷ [])
+    ∷ digits (entry .ret) ∷ [])
 
 -- " returns from routine 0107 with working depth 2, and the JMP2r at 010A with 1"
 unfoldable pub returnsDiffer : Place → Place → List ℕ
 returnsDiffer p other =
     joined (returnsWith (p .routine) (text "working") (p .work) ∷ text ", and the JMP2r at " ∷ hex (other .at)
-    ∷ text " with " ∷ number (other .work) ∷ [])
+    ∷ text " with " ∷ digits (other .work) ∷ [])
 
 unfoldable pub sentence : List ℕ → Reason → List ℕ
 sentence program (Reason.Cut p n) = isCut n (restFrom program (p .at))
@@ -135,7 +135,7 @@ placeOf (Reason.ReturnsDiffer p other) = p
 unfoldable pub becauseLine : List ℕ → Reason → List ℕ
 becauseLine program reason =
     joined (text "refused 11 at " ∷ hex (placeOf reason .at) ∷ text ": "
-    ∷ name (byteOf program (placeOf reason)) ∷ sentence program reason ∷ lineFeed ∷ [])
+    ∷ name (byteThere program (placeOf reason)) ∷ sentence program reason ∷ lineFeed ∷ [])
 
 -- "refused 5", "admitted", or the reason
 unfoldable pub explainLine : List ℕ → ExplainReply → List ℕ

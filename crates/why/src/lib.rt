@@ -18,8 +18,8 @@ ghost use Rattle.why.specs.Explained.{restFrom, lastOf, takes, leaves, r
 
 // ---- of the program
 
-// 0100 hexadecimal, where a program starts.
-const START: u16 = 256;
+// A program stands at 0100 hexadecimal.
+const START: u16 = 0x0100;
 
 // How many addresses there are.
 const ADDRESSES: usize = 65536;

@@ -3,16 +3,16 @@ use mathlib.Core.Path.{_≡_, refl}
 use mathlib.Core.List.{[], _∷_, map}
 use Rattle.model.specs.Instruction.{wide, returnMode, keepMode}
 use Rattle.text.specs.Lines.{decimal}
-use Rattle.words.specs.Words.{text, joined, number, count, hex, name}
+use Rattle.words.specs.Words.{text, joined, digits, count, hex, name}
 
 pub numbers-are :
-    map number (0 ∷ 9 ∷ 10 ∷ 99 ∷ 100 ∷ 255 ∷ 256 ∷ 999 ∷ 1000 ∷ 65535 ∷ [])
+    map digits (0 ∷ 9 ∷ 10 ∷ 99 ∷ 100 ∷ 255 ∷ 256 ∷ 999 ∷ 1000 ∷ 65535 ∷ [])
     ≡ map text ("0" ∷ "9" ∷ "10" ∷ "99" ∷ "100" ∷ "255" ∷ "256" ∷ "999" ∷ "1000" ∷ "65535" ∷ [])
-unfolding number decimal
+unfolding digits decimal
 numbers-are = refl
 
 pub counts-are : map count (0 ∷ 1 ∷ 2 ∷ 256 ∷ []) ≡ map text ("0 bytes" ∷ "1 byte" ∷ "2 bytes" ∷ "256 bytes" ∷ [])
-unfolding count joined number decimal
+unfolding count joined digits decimal
 counts-are = refl
 
 pub addresses-are : map hex (0 ∷ 0x0100 ∷ 0x9ABC ∷ 0xFFFF ∷ []) ≡ map text ("0000" ∷ "0100" ∷ "9ABC" ∷ "FFFF" ∷ [])

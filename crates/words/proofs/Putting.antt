@@ -7,7 +7,7 @@ use lib.ListN.{take, drop}
 use borrow.Author.Tests.{lt-ltb, le-ltb, eq-eqb, ne-eqb}
 use Rattle.model.specs.Instruction.{wide, returnMode, keepMode}
 use Rattle.text.specs.Lines.{decimal}
-use Rattle.words.specs.Words.{text, joined, lastThree, number, count, letters, exceptions, operations, mode, name}
+use Rattle.words.specs.Words.{text, joined, lastThree, digits, count, letters, exceptionNames, operationNames, mode, name}
 
 -- ---- pieces, one after the other
 
@@ -25,26 +25,26 @@ puts a (_then_ {p = p} {x = x} {ps = ps} h more) = rw (puts x more, h) (append-a
 -- ---- numbers
 
 module _ (n : ℕ) where
-  pub below-1000 : n < 1000 → number n ≡ decimal n
-  unfolding number
+  pub below-1000 : n < 1000 → digits n ≡ decimal n
+  unfolding digits
   below-1000 h = rw (lt-ltb n 1000 h)
 
-  pub three-digits : 100 ≤ n → n < 1000 → number n ≡ lastThree n
-  unfolding number decimal
+  pub three-digits : 100 ≤ n → n < 1000 → digits n ≡ lastThree n
+  unfolding digits decimal
   three-digits l h =
       let d : n / 100 % 10 ≡ n / 100 = omega arith in
       let m : 10 ≤ n = omega arith in
       rw (lt-ltb n 1000 h, le-ltb n 10 m, le-ltb n 100 l, d)
 
-  pub thousands : (a x z : List ℕ) → 1000 ≤ n → x ≡ a ++ decimal (n / 1000) → z ≡ x ++ lastThree n → z ≡ a ++ number n
-  unfolding number
+  pub thousands : (a x z : List ℕ) → 1000 ≤ n → x ≡ a ++ decimal (n / 1000) → z ≡ x ++ lastThree n → z ≡ a ++ digits n
+  unfolding digits
   thousands a x z l h k = rw (le-ltb n 1000 l, k, h) (append-assoc a (decimal (n / 1000)) (lastThree n))
 
-  pub one-byte : n ≡ 1 → count n ≡ joined (number n ∷ text " byte" ∷ [])
+  pub one-byte : n ≡ 1 → count n ≡ joined (digits n ∷ text " byte" ∷ [])
   unfolding count
   one-byte h = rw (eq-eqb n 1 h)
 
-  pub some-bytes : (n ≡ 1 → ⊥) → count n ≡ joined (number n ∷ text " bytes" ∷ [])
+  pub some-bytes : (n ≡ 1 → ⊥) → count n ≡ joined (digits n ∷ text " bytes" ∷ [])
   unfolding count
   some-bytes h = rw (ne-eqb n 1 h)
 
@@ -56,18 +56,18 @@ pub letters-are : (names : List ℕ) (k : ℕ) (a x : List ℕ) → x ≡ a ++ t
 letters-are names k a x h = let t : 4 * k + 3 - 4 * k ≡ 3 = omega arith in rw t at h
 
 module _ (b : ℕ) where
-  pub exception-name : b % 32 ≡ 0 → b < 128 → name b ≡ letters exceptions (b / 32)
+  pub exception-name : b % 32 ≡ 0 → b < 128 → name b ≡ letters exceptionNames (b / 32)
   unfolding name
   exception-name z h = rw (eq-eqb (b % 32) 0 z, lt-ltb b 128 h)
 
   pub literal-name : b % 32 ≡ 0 → 128 ≤ b
-      → name b ≡ joined (letters exceptions (b / 32) ∷ mode (wide b) (text "2") ∷ mode (returnMode b) (text "r") ∷ [])
+      → name b ≡ joined (letters exceptionNames (b / 32) ∷ mode (wide b) (text "2") ∷ mode (returnMode b) (text "r") ∷ [])
   unfolding name
   literal-name z h = rw (eq-eqb (b % 32) 0 z, le-ltb b 128 h)
 
   pub operation-name : (b % 32 ≡ 0 → ⊥)
       → name b
-      ≡ joined (letters operations (b % 32) ∷ mode (wide b) (text "2") ∷ mode (keepMode b) (text "k")
+      ≡ joined (letters operationNames (b % 32) ∷ mode (wide b) (text "2") ∷ mode (keepMode b) (text "k")
       ∷ mode (returnMode b) (text "r") ∷ [])
   unfolding name
   operation-name z = rw (ne-eqb (b % 32) 0 z)

@@ -27,12 +27,12 @@ abbrev pub lastThree : ℕ → List ℕ
 lastThree n = (48 + n / 100 % 10) ∷ (48 + n / 10 % 10) ∷ (48 + n % 10) ∷ []
 
 -- a number of 16 bits in decimal digits, with no 0 in front: three digits at most, or the thousands and three digits
-unfoldable pub number : ℕ → List ℕ
-number n = cond (ltb n 1000) (decimal n) (decimal (n / 1000) ++ lastThree n)
+unfoldable pub digits : ℕ → List ℕ
+digits n = cond (ltb n 1000) (decimal n) (decimal (n / 1000) ++ lastThree n)
 
 -- "1 byte", "2 bytes"
 unfoldable pub count : ℕ → List ℕ
-count n = joined (number n ∷ cond (eqb n 1) (text " byte") (text " bytes") ∷ [])
+count n = joined (digits n ∷ cond (eqb n 1) (text " byte") (text " bytes") ∷ [])
 
 abbrev pub hexDigit : ℕ → ℕ
 hexDigit d = getD (text "0123456789ABCDEF") d 0
@@ -48,12 +48,12 @@ abbrev pub letters : List ℕ → ℕ → List ℕ
 letters names k = take 3 (drop (4 * k) names)
 
 -- by the high three bits, where the low five are 0: 00, 20, 40, 60, 80, A0, C0, E0
-abbrev pub exceptions : List ℕ
-exceptions = text "BRK JCI JMI JSI LIT LIT LIT LIT"
+abbrev pub exceptionNames : List ℕ
+exceptionNames = text "BRK JCI JMI JSI LIT LIT LIT LIT"
 
 -- by the low five bits, 01 to 1F
-abbrev pub operations : List ℕ
-operations =
+abbrev pub operationNames : List ℕ
+operationNames =
     text "... INC POP NIP SWP ROT DUP OVR EQU NEQ GTH LTH JMP JCN JSR STH LDZ STZ LDR STR LDA STA DEI DEO ADD SUB MUL DIV AND ORA EOR SFT"
 
 -- a letter, if the mode is on
@@ -66,7 +66,7 @@ unfoldable pub name : ℕ → List ℕ
 name b =
     cond (eqb (b % 32) 0)
     (cond (ltb b 128)
-    (letters exceptions (b / 32))
-    (joined (letters exceptions (b / 32) ∷ mode (wide b) (text "2") ∷ mode (returnMode b) (text "r") ∷ [])))
-    (joined (letters operations (b % 32) ∷ mode (wide b) (text "2") ∷ mode (keepMode b) (text "k")
+    (letters exceptionNames (b / 32))
+    (joined (letters exceptionNames (b / 32) ∷ mode (wide b) (text "2") ∷ mode (returnMode b) (text "r") ∷ [])))
+    (joined (letters operationNames (b % 32) ∷ mode (wide b) (text "2") ∷ mode (keepMode b) (text "k")
     ∷ mode (returnMode b) (text "r") ∷ []))

@@ -5,14 +5,14 @@ ghost use mathlib.Core.Path.{_≡_};
 ghost use mathlib.Core.List.{_++_};
 ghost use Prim.Native.Nat.{_+_, _*_, _%_, _≤_};
 ghost use lib.ListN.{length, take};
-ghost use Rattle.words.specs.Words.{hexDigit, hex, number, count, letters, mode, name};
+ghost use Rattle.words.specs.Words.{hexDigit, hex, digits, count, letters, mode, name};
 
 // Each function that puts text puts it into `out` from `at` on, and answers the place after it; what stands before `at` stays.
 
 // A number in decimal digits, with no 0 in front.
 fn put_number(out: &mut [u8], at: usize, value: u16) -> usize
     requires { ⌜ at + 6 ≤ length (now out) ⌝ }
-    ensures { λ r. ⌜ (r ≤ at + 6) × (take r (now (out .exit)) ≡ take at (now (out .entry)) ++ number value) ⌝ }
+    ensures { λ r. ⌜ (r ≤ at + 6) × (take r (now (out .exit)) ≡ take at (now (out .entry)) ++ digits value) ⌝ }
 {
     if value < 256 {
         return put_decimal(out, at, value as u8);
@@ -30,7 +30,7 @@ fn put_number(out: &mut [u8], at: usize, value: u16) -> usize
 // Words, then a number.
 pub fn put_with_number(out: &mut [u8], at: usize, words: &[u8], value: u16) -> usize
     requires { ⌜ at + length (now words) + 6 ≤ length (now out) ⌝ }
-    ensures { λ r. ⌜ (r ≤ at + length (now (words .entry)) + 6) × (take r (now (out .exit)) ≡ (take at (now (out .entry)) ++ now (words .entry)) ++ number value) ⌝ }
+    ensures { λ r. ⌜ (r ≤ at + length (now (words .entry)) + 6) × (take r (now (out .exit)) ≡ (take at (now (out .entry)) ++ now (words .entry)) ++ digits value) ⌝ }
 {
     let after_words = put(out, at, words);
     put_number(out, after_words, value)

@@ -11,7 +11,7 @@ use Rattle.model.specs.Instruction.{returning, takenFrom}
 use Rattle.model.specs.Admission.{admitMost, byteAt, Within, afterOf, targetOf, Way, Called, floor, sheetRecord, markIn}
 use Rattle.model.specs.Admission.Mark.{marked}
 use Rattle.model.specs.Admission.Way.{return as comes-back}
-use Rattle.model.specs.Reasons.{Passes, Sound, cameFrom}
+use Rattle.model.specs.Reasons.{Passes, Passable, cameFrom}
 use Rattle.model.proofs.Computing.{decoding}
 use Rattle.rules.proofs.Instructions.{byte-is}
 use Rattle.worklist.specs.declared.Next.{Next}
@@ -41,13 +41,13 @@ module _ (program sheet queue : List ℕ) (tail : ℕ) (list : Listed program sh
   back-inside = omega (arith, this-pass .inside, after-is)
 
   -- the way there, from the call and from the return
-  comes : (way : Way program (start + (i + 3)) v (retAt sheet i) (routineAt sheet i)) × Sound way
+  comes : (way : Way program (start + (i + 3)) v (retAt sheet i) (routineAt sheet i)) × Passable way
       × (cameFrom way ≡ (start + i, marked (workAt sheet i) (retAt sheet i) (routineAt sheet i)))
   comes =
       let call = list .ways _ _ _ _ this-mark in
       let end = list .ways _ _ _ _ (x .here) in
       let way : Way program (afterOf program (start + i)) v (retAt sheet i) (routineAt sheet i) = comes-back (call .0) jsi (end .0) (x .returns) in
-      let all : (way : Way program (afterOf program (start + i)) v (retAt sheet i) (routineAt sheet i)) × Sound way
+      let all : (way : Way program (afterOf program (start + i)) v (retAt sheet i) (routineAt sheet i)) × Passable way
       × (cameFrom way ≡ (start + i, marked (workAt sheet i) (retAt sheet i) (routineAt sheet i))) =
       (comes-back (call .0) jsi (end .0) (x .returns), (call .1, this-pass, end .1, x .passes), refl) in
       rw after-is at all

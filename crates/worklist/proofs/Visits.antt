@@ -15,7 +15,7 @@ use Rattle.model.specs.Instruction.{keepMode, returning, takenFrom, pushedOn, l
 use Rattle.model.specs.Admission.{admitMost, byteAt, Within, allowed, markAfter, afterOf, targetOf, successors, Way, GoesOn, floor, sheetRecord, markIn}
 use Rattle.model.specs.Admission.Mark.{marked}
 use Rattle.model.specs.Admission.Way.{go}
-use Rattle.model.specs.Reasons.{Passes, Sound, cameFrom}
+use Rattle.model.specs.Reasons.{Passes, Passable, cameFrom}
 use Rattle.model.proofs.Computing.{decoding}
 use Rattle.model.proofs.Exactness.{T-of}
 use Rattle.rules.proofs.Instructions.{byte-is, after-brk, after-jmi, after-jci, after-jsi, after-return, after-other}
@@ -179,9 +179,9 @@ module _ (program sheet queue : List ℕ) (tail : ℕ) (list : Listed program sh
           retTop = rw (byte-is program i) (omega (arith, t .rets, t .retTop));
         }
 
-    -- so each of them is on a sound way from it
+    -- so each of them is on a passable way from it
     on : (to v s p : ℕ) → Among (to, marked v s p) (successors program at w r q)
-        → (way : Way program to v s p) × Sound way × (cameFrom way ≡ (at, marked w r q))
+        → (way : Way program to v s p) × Passable way × (cameFrom way ≡ (at, marked w r q))
     on to v s p m = let l = list .ways at w r q parts in (go (l .0) m, (l .1, passes), refl)
 
     led : (to v s p : ℕ) → Among (to, marked v s p) (successors program at w r q) → Led program to v s p

@@ -9,7 +9,7 @@ use lib.Seq.{getD-set-same, getD-set-other}
 use Rattle.model.specs.Machine.{start}
 use Rattle.model.specs.Admission.{admitMost, byteAt, targetOf, markIn}
 use Rattle.model.specs.Admission.Mark.{marked}
-use Rattle.worklist.specs.Worklist.{Passing, Listed, Extended, placed, Calls, Last, Back, AllBack, Left, returnedAt, Returned, Waiting}
+use Rattle.worklist.specs.Worklist.{Passing, Listed, Extended, placed, Calls, Last, Back, AllBack, Left, returnedAt, HasReturn, Waiting}
 use Rattle.worklist.proofs.Worklist.{same-parts, grown-left}
 
 -- ---- one more place was visited
@@ -24,7 +24,7 @@ last-next program queue q n j other l =
     }
 
 -- two returns that `routines` has for the same routine are one
-pub same-return : (program sheet routines : List ℕ) (q v w : ℕ) → Returned program sheet routines q v → Returned program sheet routines q w → v ≡ w
+pub same-return : (program sheet routines : List ℕ) (q v w : ℕ) → HasReturn program sheet routines q v → HasReturn program sheet routines q w → v ≡ w
 same-return program sheet routines q v w (j, e, x) (k, f, y) =
     let i : j ≡ k = omega (arith, e, f) in
     same-parts (rw i at (x .here)) (y .here) .0
@@ -52,7 +52,7 @@ module _ (program sheet queue : List ℕ) (head : ℕ) (routines before : List �
 
   -- a return whose routine has one already, with the same working depth
   pub next-known : (w r q : ℕ) → markIn sheet (placed queue head) ≡ marked w r q → byteAt program (placed queue head) ≡ 0x6C
-      → Returned program sheet routines q w → Waiting program sheet queue (head + 1) routines before
+      → HasReturn program sheet routines q w → Waiting program sheet queue (head + 1) routines before
   next-known w r q here is-6c known =
       record {
         routinesSize = g .routinesSize;
@@ -119,7 +119,7 @@ module _ (program sheet queue : List ℕ) (head : ℕ) (routines before : List �
       old p h = getD-set-other routines (q - start) (p - start) (returnedAt j) 0 h
 
       -- a routine with a return is another one
-      keeps : (p v : ℕ) → Returned program sheet routines p v → Returned program sheet (set routines (q - start) (returnedAt j)) p v
+      keeps : (p v : ℕ) → HasReturn program sheet routines p v → HasReturn program sheet (set routines (q - start) (returnedAt j)) p v
       keeps p v (k, e, x) = (k, old p (λ m. let z = rw (ap (λ n. getD routines n 0) m) at e in omega arith) ∙ e, x)
 
       still : (p : ℕ) → getD (set routines (q - start) (returnedAt j)) (p - start) 0 ≤ admitMost → p - start ≡ q - start → ⊥
@@ -175,7 +175,7 @@ module _ (program sheet queue : List ℕ) (head : ℕ) (routines before : List �
       unreturned q m = elim (ℕ-discrete (q - start) (t - start)) [ yes j ↦ rw j none | no j ↦ rw (old q j) at m ]
 
   -- a call of t, which has returns with the working depth v
-  pub next-back : (t v : ℕ) → Calls program queue t head → Returned program sheet routines t v → Back program sheet (placed queue head) v
+  pub next-back : (t v : ℕ) → Calls program queue t head → HasReturn program sheet routines t v → Back program sheet (placed queue head) v
       → Waiting program sheet queue (head + 1) routines before
   next-back t v c known b =
       record {
@@ -272,10 +272,10 @@ module _ (program sheet queue : List ℕ) (tail : ℕ) (list : Listed program sh
         befores = λ k q l a c m. more-last q k _ (omega arith) (g .befores k q l a (same-calls q k (omega arith) c) m);
       }
     where
-      more-returned : (q v : ℕ) → Returned program sheet routines q v → Returned program sheet₁ routines q v
+      more-returned : (q v : ℕ) → HasReturn program sheet routines q v → HasReturn program sheet₁ routines q v
       more-returned q v (j, e, x) = (j, e, grown-left program sheet sheet₁ (more .grown) q j v x)
 
-      less-returned : (q v : ℕ) → start ≤ q → Returned program sheet₁ routines q v → Returned program sheet routines q v
+      less-returned : (q v : ℕ) → start ≤ q → HasReturn program sheet₁ routines q v → HasReturn program sheet routines q v
       less-returned q v l (j, e, x) =
           let y = g .leaves q j l e in
           let d = same-parts (more .grown _ _ _ _ (y .1 .here)) (x .here) in

@@ -156,7 +156,7 @@ module _ (program sheet queue : List ℕ) (tail : ℕ) (list : Listed program sh
   marked-parts i m = parts-are i (marked-inside i m) (λ e.
       not-both (sym (sym (m .3) ∙ marks-are (start + i) ∙ place-mark (list .marks) i ∙ free i (marked-inside i m) e)))
 
-  -- and a sound way leads to it
+  -- and a passable way leads to it
   pub stands-at : (i : ℕ) → Marks sheet (start + i) → Stands program (placeAt sheet i)
   stands-at i m =
       let l = list .ways (start + i) (workAt sheet i) (retAt sheet i) (routineAt sheet i) (marked-parts i m) in

@@ -12,7 +12,7 @@ use Rattle.model.specs.Machine.{start}
 use Rattle.model.specs.Instruction.{working, returning, takenFrom, lengthOf}
 use Rattle.model.specs.Admission.{Mark, countMarked, admitMost, byteAt, Within, allowed, depthAfter, afterOf, targetOf, Way, Called, floor, Rules, sheetRecord, sheetOf, markIn}
 use Rattle.model.specs.Admission.Mark.{marked}
-use Rattle.model.specs.Reasons.{Passes, Sound, Stands, GoesTo, Alike}
+use Rattle.model.specs.Reasons.{Passes, Passable, Stands, GoesTo, Alike}
 use Rattle.model.specs.declared.Place.{Place}
 use Rattle.worklist.specs.declared.Next.{Next}
 use Rattle.worklist.specs.declared.Reached.{Reached}
@@ -36,9 +36,9 @@ abbrev pub Agrees : List ℕ → ℕ → ℕ → ℕ → ℕ → Bool → Type 0
 Agrees sheet i w r q true = Has sheet i w r q
 Agrees sheet i w r q false = Has sheet i w r q → ⊥
 
--- a sound way leads to the address with these depths and this routine
+-- a passable way leads to the address with these depths and this routine
 abbrev pub Led : List ℕ → ℕ → ℕ → ℕ → ℕ → Type 0
-Led program at w r q = (way : Way program at w r q) × Sound way
+Led program at w r q = (way : Way program at w r q) × Passable way
 
 -- the sheet marks the address
 abbrev pub Marks : List ℕ → ℕ → Type 0
@@ -75,7 +75,7 @@ pub record Listed (program sheet queue : List ℕ) (tail : ℕ) : Type 0 where
   pub size : length marks ≡ length program
   pub written : sheet ≡ sheetOf marks program
   pub counted : tail ≡ countMarked marks
-  -- 0100 is marked with 0 and 0, and only what is reached on a sound way is marked
+  -- 0100 is marked with 0 and 0, and only what is reached on a passable way is marked
   pub first : markIn sheet start ≡ marked 0 0 start
   pub ways : (at w r q : ℕ) → markIn sheet at ≡ marked w r q → Led program at w r q
   pub rooted : (at w r q : ℕ) → markIn sheet at ≡ marked w r q → Rooted program sheet q r
@@ -190,6 +190,7 @@ Fails program sheet Rule.ReturnsDiffer i j =
     × (routineAt sheet i ≡ routineAt sheet j)
     × (workAt sheet i ≡ workAt sheet j → ⊥)
 
+-- it fails at a place of the program that is reached
 pub record Told (program sheet : List ℕ) (rule : Rule) (i j : ℕ) : Type 0 where
   pub most : length program ≤ admitMost
   pub size : length sheet ≡ sheetRecord * length program
@@ -275,8 +276,8 @@ abbrev pub returnedAt : ℕ → ℕ
 returnedAt j = admitMost + 1 + j
 
 -- a visited return of q, with the working depth v, stands there
-abbrev pub Returned : (program sheet routines : List ℕ) → ℕ → ℕ → Type 0
-Returned program sheet routines q v = (j : ℕ) × (getD routines (q - start) 0 ≡ returnedAt j) × Left program sheet q j v
+abbrev pub HasReturn : (program sheet routines : List ℕ) → ℕ → ℕ → Type 0
+HasReturn program sheet routines q v = (j : ℕ) × (getD routines (q - start) 0 ≡ returnedAt j) × Left program sheet q j v
 
 -- `routines`: for each routine with a visited return the place of the first one, so written, and else its last call; `before`: for each
 -- place of the queue with a call that waits for a return, the last call of the same routine before it
@@ -285,9 +286,9 @@ pub record Waiting (program sheet queue : List ℕ) (head : ℕ) (routines befor
   pub beforeSize : length before ≡ admitMost
   pub passed : (k : ℕ) → k < head → Passing program sheet (placed queue k)
   pub returned : (k v r q : ℕ) → k < head → markIn sheet (placed queue k) ≡ marked v r q → byteAt program (placed queue k) ≡ 0x6C
-      → Returned program sheet routines q v
+      → HasReturn program sheet routines q v
   pub leaves : (q j : ℕ) → start ≤ q → getD routines (q - start) 0 ≡ returnedAt j → (v : ℕ) × Left program sheet q j v
-  pub back : (k q v : ℕ) → k < head → start ≤ q → Calls program queue q k → Returned program sheet routines q v
+  pub back : (k q v : ℕ) → k < head → start ≤ q → Calls program queue q k → HasReturn program sheet routines q v
       → Back program sheet (placed queue k) v
   pub lasts : (q : ℕ) → start ≤ q → getD routines (q - start) 0 ≤ admitMost → Last program queue q head (getD routines (q - start) 0)
   pub befores : (k q : ℕ) → k < head → start ≤ q → Calls program queue q k → getD routines (q - start) 0 ≤ admitMost

@@ -23,6 +23,11 @@ const JCI: u8 = 0x20;
 
 const JMI: u8 = 0x40;
 
+pub const JSI: u8 = 0x60;
+
+// JMP in 16-bit return form without keep.
+pub const RETURN: u8 = 0x6C;
+
 // What `routines` has for the routine at a place of the program: the number, from 1, of the place in the queue with the routine's last
 // call, or 0, if there is none; once a return of it was visited, RETURNED and the place of the first one.
 const RETURNED: u16 = 4097;
@@ -234,7 +239,8 @@ fn come_back(
 }
 
 // The first return of the routine at place `entry` of the program stands at place `from`, with this working depth: each call of the
-// routine that was visited goes on, the last one first. `before` has, for a place of the queue with a call, the number of the place with the call before it, as `routines` has the last.
+// routine that was visited goes on, the last one first. `before` has, for a place of the queue with a call, the number of the place
+// with the call before it, as `routines` has the last.
 fn release(
     program: &[u8],
     sheet: &mut [u8],

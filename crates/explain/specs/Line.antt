@@ -7,5 +7,5 @@ use Rattle.model.specs.declared.ExplainReply.{ExplainReply}
 use Rattle.why.specs.Explained.{explainLine}
 
 -- the line of a reply that explains the program
-abbrev pub Told : List ℕ → List ℕ → Type 0
-Told program line = (reply : ExplainReply) × Explains program reply × (line ≡ explainLine program reply)
+abbrev pub LineOf : List ℕ → List ℕ → Type 0
+LineOf program line = (reply : ExplainReply) × Explains program reply × (line ≡ explainLine program reply)
