@@ -1,7 +1,7 @@
 /*
  * The filter machine as a static library: libcapi.a, made by `rt staticlib capi`, for x86-64.
  *
- * A machine is a record of three registers, passed and returned by value, and four buffers that the caller owns and lends to
+ * A machine is a record of five numbers, passed and returned by value, and four buffers that the caller owns and lends to
  * each call, each with its length in bytes:
  *
  *   memory        65,536 bytes   the program stands at 0x0100; a frame record is written to 0x0080 .. 0x00BF
@@ -29,18 +29,24 @@
 /* The version of this interface. Every change of a call, a struct or a constant of this file raises it. Version 1 had no such
    name: there the device of uxn_event was a uint8_t, so that C cut 259 down to 3, and there was no uxn_host. In version 2 a sheet
    had four bytes for each program byte; since version 3 it has eight, and uxn_widen_sheet and uxn_narrow_sheet move sheets from
-   one form to the other. Since version 4 uxn_explain says why a program is refused. */
-#define UXN_FILTER_VERSION 4
+   one form to the other. Since version 4 uxn_explain says why a program is refused. Since version 5 uxn_machine has two high marks:
+   it has 6 bytes where it had 4, and uxn_reply 16 where it had 12. */
+#define UXN_FILTER_VERSION 5
 
 #ifdef __cplusplus
 extern "C" {
 #endif
 
-/* Program counter, pointer of the working stack, pointer of the return stack. */
+/* Program counter, pointer of the working stack, pointer of the return stack, and a high mark for each stack: the greatest value that
+   its pointer had after any instruction since the last load or frame start, 0 there. After a frame the marks say how near to the end
+   of its stacks, 255, the filter came. Of an admitted filter each is at most the greatest depth of that stack on the sheet. Of another
+   one 255 may also be a stack that went round below 0. A call does not judge the marks that it is given. */
 typedef struct {
     uint16_t pc;
     uint8_t wp;
     uint8_t rp;
+    uint8_t wp_high;
+    uint8_t rp_high;
 } uxn_machine;
 
 /* uxn_reply.answer */
@@ -76,7 +82,7 @@ typedef struct {
     uint8_t verdict;     /* uxn_frame that broke: port 0xF2, where 0 drops the frame and any other number passes it; else 0 */
 } uxn_reply;
 
-/* Memory becomes zero but for the program at 0x0100, device page and stacks zero, both pointers 0, the counter 0x0100.
+/* Memory becomes zero but for the program at 0x0100, device page and stacks zero, pointers and high marks 0, the counter 0x0100.
    Refusals: 1 to 5. */
 uxn_reply uxn_load(uxn_machine machine, uint8_t *memory, size_t memory_length, uint8_t *device_page, size_t device_page_length,
                    uint8_t *working, size_t working_length, uint8_t *ret, size_t ret_length, const uint8_t *program,
@@ -90,13 +96,14 @@ uxn_reply uxn_step(uxn_machine machine, uint8_t *memory, size_t memory_length, u
 uxn_reply uxn_run(uxn_machine machine, uint8_t *memory, size_t memory_length, uint8_t *device_page, size_t device_page_length,
                   uint8_t *working, size_t working_length, uint8_t *ret, size_t ret_length, uint32_t budget);
 
-/* A run from the vector of a device, 0 to 15; stacks and pointers stay as they are. Any other number is refused, 259 and -1 too;
-   but C cuts one of more than 32 bits before the call sees it. Refusals: 1 to 4, 6. */
+/* A run from the vector of a device, 0 to 15; stacks, pointers and high marks stay as they are. Any other number is refused, 259 and
+   -1 too; but C cuts one of more than 32 bits before the call sees it. Refusals: 1 to 4, 6. */
 uxn_reply uxn_event(uxn_machine machine, uint8_t *memory, size_t memory_length, uint8_t *device_page, size_t device_page_length,
                     uint8_t *working, size_t working_length, uint8_t *ret, size_t ret_length, uint32_t device, uint32_t budget);
 
 /* A frame record of 64 bytes: length of the data (0 to 62), node number, the data, zeros to the end. Port 0xF2 becomes 0, the
-   record is written to 0x0080 .. 0x00BF, both pointers become 0, and the program runs from 0x0100. Refusals: 1 to 4, 7, 8. */
+   record is written to 0x0080 .. 0x00BF, pointers and high marks become 0, and the program runs from 0x0100. Refusals: 1 to 4, 7,
+   8. */
 uxn_reply uxn_frame(uxn_machine machine, uint8_t *memory, size_t memory_length, uint8_t *device_page, size_t device_page_length,
                     uint8_t *working, size_t working_length, uint8_t *ret, size_t ret_length, const uint8_t *record,
                     size_t record_length, uint32_t budget);
@@ -176,7 +183,7 @@ uxn_written uxn_narrow_sheet(const uint8_t *sheet, size_t sheet_length, uint8_t 
  *
  * These functions are C, compiled with the host, and not proved: they only pass on. The calls that they make are proved.
  *
- * Before its first load the struct may hold anything. It has 66,308 bytes, so mind a small stack. Its fields may be read and
+ * Before its first load the struct may hold anything. It has 66,310 bytes, so mind a small stack. Its fields may be read and
  * written between calls, and a copy of it is a copy of the machine. The program and the record that are lent must not lie in it,
  * and no pointer may be null.
  */

@@ -1,7 +1,7 @@
 /* A Uxn core for the speed comparison, in the manner of the reference core uxn.c: one switch over
- * the 256 instruction bytes and macros for the modes. Counter and stack pointers are in locals. The
- * calls have the interface of the proved library; compiled with -DPEER=name they are name_run,
- * name_frame and name_load. */
+ * the 256 instruction bytes and macros for the modes. Counter, stack pointers and high marks are in
+ * locals. The calls have the interface of the proved library; compiled with -DPEER=name they are
+ * name_run, name_frame and name_load. */
 
 #include <stddef.h>
 #include <stdint.h>
@@ -11,6 +11,8 @@ typedef struct {
     uint16_t pc;
     uint8_t wp;
     uint8_t rp;
+    uint8_t wp_high;
+    uint8_t rp_high;
 } machine;
 
 typedef struct {
@@ -152,6 +154,13 @@ static inline uint16_t product(uint16_t a, uint16_t b)
     return sum;
 }
 
+/* After each step the high marks are raised to the pointers. */
+#define RAISE                                                                                      \
+    if (wp_high < wp)                                                                              \
+        wp_high = wp;                                                                              \
+    if (rp_high < rp)                                                                              \
+        rp_high = rp;
+
 /* A run on buffers of the right lengths. */
 static inline reply run_sized(machine from, uint8_t *restrict mem, uint8_t *restrict dev,
                               uint8_t *restrict wst, uint8_t *restrict rst, uint32_t budget)
@@ -159,6 +168,8 @@ static inline reply run_sized(machine from, uint8_t *restrict mem, uint8_t *rest
     uint16_t pc = from.pc;
     uint8_t wp = from.wp;
     uint8_t rp = from.rp;
+    uint8_t wp_high = from.wp_high;
+    uint8_t rp_high = from.rp_high;
     uint8_t answer = SPENT;
     uint32_t left = budget;
     while (left) {
@@ -166,6 +177,7 @@ static inline reply run_sized(machine from, uint8_t *restrict mem, uint8_t *rest
         switch (mem[pc++]) {
         case 0x00: /* BRK */
             answer = BROKE;
+            RAISE
             goto end;
         case 0x20: /* JCI */
             pc += (wst[--wp] ? FETCH16 : 0) + 2;
@@ -222,9 +234,10 @@ static inline reply run_sized(machine from, uint8_t *restrict mem, uint8_t *rest
         OPERATION(0x1e, POP(b) POP(a), PUSH(a ^ b))                               /* EOR */
         OPERATION(0x1f, POP8(b) POP(a), PUSH((uint32_t)(a >> (b & 15)) << (b >> 4))) /* SFT */
         }
+        RAISE
     }
 end:
-    return (reply){{pc, wp, rp}, budget - left, 0, answer, 0};
+    return (reply){{pc, wp, rp, wp_high, rp_high}, budget - left, 0, answer, 0};
 }
 
 reply CALL(run)(BUFFERS, uint32_t budget)
@@ -249,7 +262,7 @@ reply CALL(frame)(BUFFERS, const uint8_t *record, size_t record_len, uint32_t bu
             return refused(from, 8);
     dev[0xf2] = 0;
     memcpy(mem + 0x0080, record, 64);
-    machine start = {0x0100, 0, 0};
+    machine start = {0x0100, 0, 0, 0, 0};
     reply ran = run_sized(start, mem, dev, wst, rst, budget);
     if (ran.answer == BROKE)
         ran.verdict = dev[0xf2];
@@ -268,5 +281,5 @@ reply CALL(load)(BUFFERS, const uint8_t *program, size_t program_len)
     memset(dev, 0, 256);
     memset(wst, 0, 256);
     memset(rst, 0, 256);
-    return (reply){{0x0100, 0, 0}, 0, 0, LOADED, 0};
+    return (reply){{0x0100, 0, 0, 0, 0}, 0, 0, LOADED, 0};
 }

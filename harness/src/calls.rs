@@ -40,13 +40,28 @@ pub const BROKE: u8 = 3;
 pub const SPENT: u8 = 4;
 pub const IGNORED: u8 = 5;
 
-/// The machine record: program counter, working and return stack pointer.
+/// The machine record: program counter, working and return stack pointer, and the high mark of each.
 #[repr(C)]
 #[derive(Clone, Copy, PartialEq, Eq, Debug, Default)]
 pub struct Machine {
     pub pc: u16,
     pub wp: u8,
     pub rp: u8,
+    pub wp_high: u8,
+    pub rp_high: u8,
+}
+
+impl Machine {
+    /// Counter and pointers, with both high marks 0.
+    pub const fn at(pc: u16, wp: u8, rp: u8) -> Machine {
+        Machine {
+            pc,
+            wp,
+            rp,
+            wp_high: 0,
+            rp_high: 0,
+        }
+    }
 }
 
 #[repr(C)]
@@ -92,7 +107,7 @@ pub struct Why {
     pub other: Place,
 }
 
-const _: () = assert!(size_of::<Machine>() == 4 && size_of::<Reply>() == 12);
+const _: () = assert!(size_of::<Machine>() == 6 && size_of::<Reply>() == 16);
 const _: () = assert!(size_of::<Written>() == 16);
 const _: () = assert!(size_of::<Place>() == 6 && size_of::<Why>() == 22);
 

@@ -17,7 +17,7 @@ use crate::assembler::assemble;
 use crate::calls::{ADMITTED, MEMORY, PAGE, PROGRAM_LIMIT, RECORD, SHEET_RECORD};
 use crate::compiled::repository;
 use crate::random::Random;
-use crate::second::{self, Answer, Parts, Record};
+use crate::second::{self, Answer, Parts};
 use crate::{library, second_admission, sentences};
 
 /// Steps that `frames` gives each frame.
@@ -289,12 +289,7 @@ fn loaded(program: &[u8]) -> (second::Reply, Parts) {
         working: vec![0; PAGE],
         ret: vec![0; PAGE],
     };
-    let fresh = Record {
-        counter: 0,
-        working_pointer: 0,
-        return_pointer: 0,
-    };
-    (second::load(fresh, &mut parts, program), parts)
+    (second::load(second::START, &mut parts, program), parts)
 }
 
 /// The lines of `frames`, from the second machine.

@@ -119,6 +119,8 @@ impl Pair {
             pc: random.short(),
             wp: random.byte(),
             rp: random.byte(),
+            wp_high: random.byte(),
+            rp_high: random.byte(),
         };
     }
 
@@ -208,9 +210,15 @@ impl Pair {
                 .all(|part| self.bytes(part) == self.second(part))
             && self.library.iter().all(Guarded::guards_stand);
         if !same {
-            let Machine { pc, wp, rp } = self.machine;
+            let Machine {
+                pc,
+                wp,
+                rp,
+                wp_high,
+                rp_high,
+            } = self.machine;
             panic!(
-                "seed {}, call {}: {} from pc {pc:04x}, wp {wp:02x}, rp {rp:02x}:\n{}",
+                "seed {}, call {}: {} from pc {pc:04x}, wp {wp:02x}, rp {rp:02x}, high marks {wp_high:02x}, {rp_high:02x}:\n{}",
                 self.seed,
                 self.calls,
                 what(),
@@ -291,6 +299,8 @@ fn record_of(machine: Machine) -> second::Record {
         counter: machine.pc,
         working_pointer: machine.wp,
         return_pointer: machine.rp,
+        working_high: machine.wp_high,
+        return_high: machine.rp_high,
     }
 }
 
@@ -309,6 +319,8 @@ fn reply_of(reply: second::Reply) -> Reply {
             pc: reply.record.counter,
             wp: reply.record.working_pointer,
             rp: reply.record.return_pointer,
+            wp_high: reply.record.working_high,
+            rp_high: reply.record.return_high,
         },
         steps: reply.steps,
         number,

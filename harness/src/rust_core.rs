@@ -14,6 +14,8 @@ struct Core<'a> {
     pc: u16,
     wp: u8,
     rp: u8,
+    wp_high: u8,
+    rp_high: u8,
 }
 
 /// The arms of the match: for each operation its byte in the eight modes.
@@ -262,6 +264,17 @@ impl Core<'_> {
         offset
     }
 
+    /// After each step the high marks are raised to the pointers.
+    #[inline(always)]
+    fn raise(&mut self) {
+        if self.wp_high < self.wp {
+            self.wp_high = self.wp;
+        }
+        if self.rp_high < self.rp {
+            self.rp_high = self.rp;
+        }
+    }
+
     fn run(mut self, budget: u32) -> Reply {
         // The record in a local, so that it stays in processor registers.
         let core = &mut self;
@@ -275,6 +288,7 @@ impl Core<'_> {
                 {
                     0x00 => {
                         answer = BROKE;
+                        core.raise();
                         break;
                     },
                     0x20 => {
@@ -329,12 +343,15 @@ impl Core<'_> {
                 0x1e 0x3e 0x5e 0x7e 0x9e 0xbe 0xde 0xfe eor,
                 0x1f 0x3f 0x5f 0x7f 0x9f 0xbf 0xdf 0xff sft,
             );
+            core.raise();
         }
         Reply {
             machine: Machine {
                 pc: core.pc,
                 wp: core.wp,
                 rp: core.rp,
+                wp_high: core.wp_high,
+                rp_high: core.rp_high,
             },
             steps: budget - left,
             number: 0,
@@ -354,14 +371,12 @@ fn core_on<'a>(machine: Machine, lent: Buffers<'a>) -> Result<Core<'a>, u8> {
         pc: machine.pc,
         wp: machine.wp,
         rp: machine.rp,
+        wp_high: machine.wp_high,
+        rp_high: machine.rp_high,
     })
 }
 
-const START: Machine = Machine {
-    pc: PROGRAM_START,
-    wp: 0,
-    rp: 0,
-};
+const START: Machine = Machine::at(PROGRAM_START, 0, 0);
 
 pub fn run(machine: Machine, lent: Buffers, budget: u32) -> Reply {
     match core_on(machine, lent) {

@@ -4,13 +4,25 @@
 
 // Machine parts
 
-/// Program counter and the two stack pointers.
+/// Program counter and the two stack pointers; for each stack the greatest pointer value after any
+/// step since the last load or frame start (request C-20).
 #[derive(Clone, Copy, PartialEq, Eq, Debug)]
 pub struct Record {
     pub counter: u16,
     pub working_pointer: u8,
     pub return_pointer: u8,
+    pub working_high: u8,
+    pub return_high: u8,
 }
+
+/// After a load, and at a frame's start.
+pub const START: Record = Record {
+    counter: 0x0100,
+    working_pointer: 0,
+    return_pointer: 0,
+    working_high: 0,
+    return_high: 0,
+};
 
 /// The four lent buffers, of whatever lengths the caller has.
 pub struct Parts {
@@ -403,6 +415,8 @@ fn execute(record: Record, parts: &mut Parts) -> (Record, Ended) {
         counter,
         working_pointer: working.pointer,
         return_pointer: ret.pointer,
+        working_high: record.working_high.max(working.pointer),
+        return_high: record.return_high.max(ret.pointer),
     };
     (next, ended)
 }
@@ -454,11 +468,7 @@ pub fn load(record: Record, parts: &mut Parts, program: &[u8]) -> Reply {
     parts.working.fill(0);
     parts.ret.fill(0);
     Reply {
-        record: Record {
-            counter: 0x0100,
-            working_pointer: 0,
-            return_pointer: 0,
-        },
+        record: START,
         answer: Answer::Loaded,
         steps: 0,
         verdict: 0,
@@ -546,12 +556,7 @@ pub fn frame(record: Record, parts: &mut Parts, frame: &[u8], budget: u32) -> Re
     }
     parts.device_page[0xf2] = 0;
     parts.memory[0x0080..=0x00bf].copy_from_slice(frame);
-    let from = Record {
-        counter: 0x0100,
-        working_pointer: 0,
-        return_pointer: 0,
-    };
-    let ran = run_parts(from, parts, budget);
+    let ran = run_parts(START, parts, budget);
     let verdict = match ran.answer {
         Answer::Broke => parts.device_page[0xf2],
         _ => 0,

@@ -1,7 +1,8 @@
 //! Demand 3, watched: a filter that the library has loaded gets a list of frame calls. Each call is
 //! made once as a whole and once step by step from the same state; before each step counter,
 //! pointers, stacks and the filter's bytes are held against the sheet. The subroutine calls that are
-//! open are kept: they say in which routine the counter is, and where each 6C has to land.
+//! open are kept: they say in which routine the counter is, and where each 6C has to land. After each
+//! call the high marks are held against the greatest depths of the sheet.
 
 use crate::admissions::shown;
 use crate::calls::{
@@ -35,6 +36,8 @@ pub struct Watch {
     pub returns: u64,
     /// The most calls that were open at a step.
     pub deepest: usize,
+    /// Calls after which the mark of a stack was its greatest depth, and that was not 0.
+    pub at_greatest: [u64; 2],
 }
 
 /// A subroutine call that is open.
@@ -92,6 +95,7 @@ impl Watch {
             steps: 0,
             returns: 0,
             deepest: 0,
+            at_greatest: [0; 2],
         })
     }
 
@@ -136,18 +140,30 @@ impl Watch {
         })?;
         self.machine = reply.machine;
         self.filter_stands(&self.own.memory, "after the call")?;
+        self.marks_in_sheet()?;
         Ok(reply)
+    }
+
+    /// "each is at most the greatest depth in its sheet column", which byte 1 of a record is for the
+    /// working stack, and byte 2 for the return stack.
+    fn marks_in_sheet(&mut self) -> Watched<()> {
+        let marks = [self.machine.wp_high, self.machine.rp_high];
+        for (stack, mark) in marks.into_iter().enumerate() {
+            let records = self.sheet.chunks_exact(SHEET_RECORD);
+            let greatest = records.map(|record| record[1 + stack]).max().unwrap_or(0);
+            hold(mark <= greatest, || {
+                format!("after the call a high mark is {mark}, and its greatest depth {greatest}")
+            })?;
+            self.at_greatest[stack] += u64::from(mark == greatest && mark > 0);
+        }
+        Ok(())
     }
 
     /// The frame's steps on the copy, set up as document 01 says.
     fn frame_by_steps(&mut self, record: &[u8], budget: u32) -> Watched<Reply> {
         self.stepped.device_page[VERDICT] = 0;
         self.stepped.memory[RECORD_AT..RECORD_AT + RECORD].copy_from_slice(record);
-        let mut machine = Machine {
-            pc: PROGRAM_START,
-            wp: 0,
-            rp: 0,
-        };
+        let mut machine = Machine::at(PROGRAM_START, 0, 0);
         let mut open = Vec::new();
         let mut steps = 0;
         let mut answer = SPENT;
@@ -155,7 +171,12 @@ impl Watch {
             let byte = self.before_step(machine, &open)?;
             let reply = library::step(machine, self.stepped.lend());
             self.after_step(machine.pc, byte, reply.machine.pc, &mut open)?;
-            machine = reply.machine;
+            // The marks as the pointers say, whatever the step replied.
+            machine = Machine {
+                wp_high: machine.wp_high.max(reply.machine.wp),
+                rp_high: machine.rp_high.max(reply.machine.rp),
+                ..reply.machine
+            };
             steps += 1;
             self.steps += 1;
             if reply.answer == BROKE {
@@ -178,7 +199,7 @@ impl Watch {
     /// What demand 3 says before every step; its instruction byte.
     fn before_step(&self, machine: Machine, open: &[OpenCall]) -> Watched<u8> {
         self.filter_stands(&self.stepped.memory, "before a step")?;
-        let Machine { pc, wp, rp } = machine;
+        let Machine { pc, wp, rp, .. } = machine;
         let place = usize::from(pc).checked_sub(START);
         let record = place.and_then(|place| self.sheet.chunks_exact(SHEET_RECORD).nth(place));
         let Some(&[1, working, ret, _, high, low, 0, 0]) = record else {
@@ -281,6 +302,7 @@ impl Watch {
             "a call refused for a buffer changed a byte".to_owned()
         })?;
         self.filter_stands(&self.own.memory, "after a refused call")?;
+        self.marks_in_sheet()?;
         Ok(reply)
     }
 }

@@ -327,10 +327,5 @@ pub fn prepared(program: &[u8]) -> (Machine, Owned) {
     let start = usize::from(PROGRAM_START);
     owned.memory[start..start + program.len()].copy_from_slice(program);
     owned.memory[0x80..0xc0].copy_from_slice(&record());
-    let machine = Machine {
-        pc: PROGRAM_START,
-        wp: 0,
-        rp: 0,
-    };
-    (machine, owned)
+    (Machine::at(PROGRAM_START, 0, 0), owned)
 }

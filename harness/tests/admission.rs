@@ -76,11 +76,7 @@ fn the_sheet_of_a_short_filter() {
 fn sizes_are_those_of_the_machines() {
     let mut pair = Pair::new(0);
     for byte in 0..=255 {
-        let from = Machine {
-            pc: 0x0100,
-            wp: 100,
-            rp: 150,
-        };
+        let from = Machine::at(0x0100, 100, 150);
         // A jump goes on to the next address: offset 0, operands 0.
         pair.load(&[byte, 0, 0, 0]);
         pair.machine = from;

@@ -2,8 +2,8 @@
 
 use uxn_filter_harness::assembler::assemble;
 use uxn_filter_harness::calls::{
-    BROKE, IGNORED, LOADED, MEMORY, NO_DEVICES, PROGRAM_LIMIT, PROGRAM_START, RECORD, REFUSED,
-    SPENT,
+    Machine, Reply, BROKE, IGNORED, LOADED, MEMORY, NO_DEVICES, PROGRAM_LIMIT, PROGRAM_START,
+    RECORD, REFUSED, SPENT,
 };
 use uxn_filter_harness::pair::{Pair, Part};
 use uxn_filter_harness::programs::{either, grammar_made, random_bytes};
@@ -94,6 +94,85 @@ fn events_in_a_row() {
         }
     }
     pair.say_total("events in a row");
+}
+
+fn marks(reply: Reply) -> (u8, u8) {
+    (reply.machine.wp_high, reply.machine.rp_high)
+}
+
+/// "since the last load or frame start, 0 there; only steps raise it"
+#[test]
+fn high_marks_from_call_to_call() {
+    let mut pair = Pair::new(seed());
+    let record = [0; RECORD];
+    // Three bytes on the working stack, two on the return stack, and fewer at the end; at 0109 one
+    // more on the return stack.
+    let program = assemble("LIT 01 LIT2 0203 STH2 BRK LITr 01 BRK");
+    pair.load(&program);
+    assert_eq!(marks(pair.run(10)), (3, 2));
+    // A load and a frame begin anew, with no step too.
+    assert_eq!(marks(pair.load(&program)), (0, 0));
+    pair.run(10);
+    assert_eq!(marks(pair.frame(&record, 0)), (0, 0));
+    assert_eq!(marks(pair.frame(&record, 1)), (1, 0));
+    assert_eq!(marks(pair.frame(&record, 2)), (3, 0));
+    assert_eq!(marks(pair.frame(&record, 10)), (3, 2));
+    // An event goes on: it keeps them and raises them; ignored it leaves them.
+    pair.put(Part::DevicePage, 0x10, &[0x01, 0x07]);
+    assert_eq!(marks(pair.event(1, 0)), (3, 2));
+    assert_eq!(marks(pair.event(1, 10)), (3, 3));
+    assert_eq!(pair.event(2, 10).answer, IGNORED);
+    assert_eq!(marks(pair.event(2, 10)), (3, 3));
+    // So does a step after it, and a refusal of any call leaves them.
+    for refusal in [
+        pair.load(&[]),
+        pair.event(16, 10),
+        pair.frame(&record[1..], 10),
+        pair.frame(&[0xff; RECORD], 10),
+    ] {
+        assert_eq!((refusal.answer, marks(refusal)), (REFUSED, (3, 3)));
+    }
+    pair.say_total("high marks from call to call");
+}
+
+/// The pointer after a step counts, and not the one before it or inside it. A mark that is handed in
+/// is not judged.
+#[test]
+fn high_marks_of_one_step() {
+    let mut pair = Pair::new(seed());
+    for (text, wp, rp, high, after) in [
+        // POP at 0 leaves its pointer at 255, on either stack; INC comes back from there, POPk stays.
+        ("POP", 0, 0, (0, 0), (255, 0)),
+        ("POPr", 0, 0, (0, 0), (0, 255)),
+        ("POP2", 1, 0, (0, 0), (255, 0)),
+        ("INC", 0, 0, (0, 0), (0, 0)),
+        ("POPk", 0, 0, (0, 0), (0, 0)),
+        // A push at 255 comes out at 0: the pointer before it is lost, unless it was marked.
+        ("LIT 01", 255, 0, (0, 0), (0, 0)),
+        ("LIT 01", 255, 0, (255, 0), (255, 0)),
+        ("LIT 01", 254, 0, (7, 0), (255, 0)),
+        // Marks below and above the pointers; BRK is a step.
+        ("BRK", 9, 200, (3, 250), (9, 250)),
+        ("BRK", 200, 9, (250, 3), (250, 9)),
+        ("JMI 0000", 9, 9, (9, 8), (9, 9)),
+        // Return mode exchanges the stacks and not the marks.
+        ("POPr", 20, 10, (15, 5), (20, 9)),
+        ("STH", 20, 10, (15, 5), (19, 11)),
+        ("STHr", 20, 10, (15, 5), (21, 9)),
+    ] {
+        let from = Machine {
+            wp_high: high.0,
+            rp_high: high.1,
+            ..Machine::at(PROGRAM_START, wp, rp)
+        };
+        pair.load(&assemble(text));
+        pair.machine = from;
+        assert_eq!(marks(pair.run(0)), high, "{text}, no step");
+        assert_eq!(marks(pair.step()), after, "{text}");
+        pair.machine = from;
+        assert_eq!(marks(pair.run(1)), after, "{text}, a run of one step");
+    }
+    pair.say_total("high marks of one step");
 }
 
 /// A record with random data of the length given, zeros after it.

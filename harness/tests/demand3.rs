@@ -1,7 +1,8 @@
 //! Demand 3 at run time: filters that the library admits, each with a list of frame calls whatever
 //! their records and budgets, with bytes put into zero page, device page and stacks before each,
 //! and with calls that are refused. Every call is made as one and again step by step. Most filters
-//! have subroutines: each of their returns has to land just after its call.
+//! have subroutines: each of their returns has to land just after its call. No high mark passes the
+//! greatest depth of its stack.
 
 use uxn_filter_harness::assembler::assemble;
 use uxn_filter_harness::calls::{
@@ -78,6 +79,7 @@ fn admitted_filters_keep_to_their_sheets() {
     let mut returns = 0;
     let mut returning = 0;
     let mut deepest = 0;
+    let mut at_greatest = [0; 2];
     for turn in 0..FILTERS {
         let mut watch = next_filter(&mut random, turn);
         let watched = frames(&mut watch, &mut random, &mut answers);
@@ -89,6 +91,9 @@ fn admitted_filters_keep_to_their_sheets() {
         returns += watch.returns;
         returning += usize::from(watch.returns > 0);
         deepest = deepest.max(watch.deepest);
+        for (total, more) in at_greatest.iter_mut().zip(watch.at_greatest) {
+            *total += more;
+        }
     }
     let Answers {
         broke,
@@ -103,7 +108,8 @@ fn admitted_filters_keep_to_their_sheets() {
         FILTERS * CALLS
     ));
     say(&format!(
-        "demand 3: {returns} returns seen, in {returning} filters; at most {deepest} calls open"
+        "demand 3: {returns} returns seen, in {returning} filters; at most {deepest} calls open; high marks at the \
+         greatest depth after {at_greatest:?} calls"
     ));
     // Every kind of call stands in the lists.
     assert!(broke > 1_000 && spent > 1_000 && passed > 100);
@@ -112,6 +118,7 @@ fn admitted_filters_keep_to_their_sheets() {
         .all(|&number| refused[number] > 20);
     assert!(every, "refused {refused:?}");
     assert!(returns > 10_000 && returning > FILTERS / 6 && deepest > 2);
+    assert!(at_greatest.iter().all(|&calls| calls > 1_000));
 }
 
 /// A good record of each length goes to the same filter, with what it writes read back.
@@ -245,6 +252,26 @@ fn the_watch_sees_other_depths() {
             let what = seen(&program, &marked);
             assert!(what.contains("the depths"), "{what}");
         }
+    }
+}
+
+/// Spent just after a push: the address that the counter is at is not marked, and no step is taken
+/// there. The next call, which is refused, leaves the mark.
+#[test]
+fn the_watch_sees_a_high_mark_above_the_sheet() {
+    for (literal, stack) in [(LIT, 0), (LIT | RETURN, 1)] {
+        let program = [literal, 0x01, 0x00];
+        let sheet = sheet_of(&program, &[(0, 0, 0)]);
+        let mut watch = Watch::with_sheet(&program, sheet).expect("a program that loads");
+        watch.frame(&[0; RECORD], 0).expect("no step");
+        for record in [RECORD, RECORD - 1] {
+            let what = watch.frame(&vec![0; record], 1);
+            let what = what.expect_err("a mark above the sheet");
+            assert!(what.contains("a high mark is 1"), "{what}");
+        }
+        let mut watch = Watch::admitted(&program).expect("a filter");
+        watch.frame(&[0; RECORD], 1).expect("the same, admitted");
+        assert_eq!(watch.at_greatest[stack], 1);
     }
 }
 

@@ -6,12 +6,14 @@
 
 #include "uxn_filter.h"
 
-_Static_assert(sizeof(uxn_machine) == 4, "the machine record");
-_Static_assert(sizeof(uxn_reply) == 12, "the reply");
-_Static_assert(offsetof(uxn_reply, steps) == 4, "steps");
-_Static_assert(offsetof(uxn_reply, number) == 8, "number");
-_Static_assert(offsetof(uxn_reply, answer) == 9, "answer");
-_Static_assert(offsetof(uxn_reply, verdict) == 10, "verdict");
+_Static_assert(sizeof(uxn_machine) == 6, "the machine record");
+_Static_assert(sizeof(uxn_reply) == 16, "the reply");
+_Static_assert(offsetof(uxn_machine, wp_high) == 4, "high mark of the working stack");
+_Static_assert(offsetof(uxn_machine, rp_high) == 5, "high mark of the return stack");
+_Static_assert(offsetof(uxn_reply, steps) == 8, "steps");
+_Static_assert(offsetof(uxn_reply, number) == 12, "number");
+_Static_assert(offsetof(uxn_reply, answer) == 13, "answer");
+_Static_assert(offsetof(uxn_reply, verdict) == 14, "verdict");
 _Static_assert(sizeof(uxn_written) == 16, "what was written");
 _Static_assert(offsetof(uxn_written, line) == 8, "line");
 _Static_assert(offsetof(uxn_written, number) == 12, "number of a refused write");
@@ -30,8 +32,8 @@ static uint8_t memory[65536], device_page[256], working[256], ret[256];
 
 static void say(const char *call, uxn_reply r)
 {
-    printf("%s: answer %u, number %u, steps %u, verdict %u, pc %04x, wp %u, rp %u\n", call, r.answer, r.number, (unsigned)r.steps,
-           r.verdict, r.machine.pc, r.machine.wp, r.machine.rp);
+    printf("%s: answer %u, number %u, steps %u, verdict %u, pc %04x, wp %u, rp %u, high %u %u\n", call, r.answer, r.number,
+           (unsigned)r.steps, r.verdict, r.machine.pc, r.machine.wp, r.machine.rp, r.machine.wp_high, r.machine.rp_high);
 }
 
 static void say_sheet(const uint8_t *program, size_t length, uint8_t *sheet, size_t sheet_length)
@@ -91,7 +93,7 @@ int main(void)
     uint8_t wide[18], narrow[9];
     uint8_t sheet[8 * sizeof program];
     uint8_t record[64];
-    uxn_machine machine = {0x1234, 5, 6};
+    uxn_machine machine = {0x1234, 5, 6, 7, 8};
     uxn_reply reply;
     size_t n;
 

@@ -21,13 +21,13 @@ fn folder(test: &str) -> PathBuf {
 // The calls
 
 const SAYS: &str = "\
-load: answer 1, number 0, steps 0, verdict 0, pc 0100, wp 0, rp 0
-step: answer 2, number 0, steps 1, verdict 0, pc 0102, wp 1, rp 0
-run: answer 4, number 0, steps 2, verdict 0, pc 0105, wp 0, rp 0
-frame: answer 3, number 0, steps 4, verdict 1, pc 0106, wp 0, rp 0
-event: answer 5, number 0, steps 0, verdict 0, pc 0106, wp 0, rp 0
-event: answer 3, number 0, steps 4, verdict 0, pc 0106, wp 0, rp 0
-frame: answer 0, number 7, steps 0, verdict 0, pc 0106, wp 0, rp 0
+load: answer 1, number 0, steps 0, verdict 0, pc 0100, wp 0, rp 0, high 0 0
+step: answer 2, number 0, steps 1, verdict 0, pc 0102, wp 1, rp 0, high 1 0
+run: answer 4, number 0, steps 2, verdict 0, pc 0105, wp 0, rp 0, high 2 0
+frame: answer 3, number 0, steps 4, verdict 1, pc 0106, wp 0, rp 0, high 2 0
+event: answer 5, number 0, steps 0, verdict 0, pc 0106, wp 0, rp 0, high 2 0
+event: answer 3, number 0, steps 4, verdict 0, pc 0106, wp 0, rp 0, high 2 0
+frame: answer 0, number 7, steps 0, verdict 0, pc 0106, wp 0, rp 0, high 2 0
 device 16: answer 0, number 6
 device 255: answer 0, number 6
 device 256: answer 0, number 6
@@ -228,7 +228,7 @@ fn the_calls_are_declared_in_c90_too() {
 // The version
 
 /// The version, and a sum over the header without comments and white space as it is in that version.
-const INTERFACE: (&str, u64) = ("4", 4_396_636_829_060_304_309);
+const INTERFACE: (&str, u64) = ("5", 12_642_272_532_076_717_367);
 
 /// The header without comments and white space.
 fn bare(header: &str) -> String {

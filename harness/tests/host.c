@@ -34,7 +34,8 @@ static uint32_t below(uint32_t end)
 
 static int same_record(uxn_machine one, uxn_machine other)
 {
-    return one.pc == other.pc && one.wp == other.wp && one.rp == other.rp;
+    return one.pc == other.pc && one.wp == other.wp && one.rp == other.rp && one.wp_high == other.wp_high &&
+           one.rp_high == other.rp_high;
 }
 
 static int same_reply(uxn_reply one, uxn_reply other)

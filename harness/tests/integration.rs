@@ -493,14 +493,12 @@ fn calls_set_what_the_page_says() {
         pc: 0x1234,
         wp: 5,
         rp: 6,
+        wp_high: 7,
+        rp_high: 4,
     };
     let mut record = [0; RECORD];
     record[..3].copy_from_slice(&[1, 2, 3]);
-    let start = Machine {
-        pc: PROGRAM_START,
-        wp: 0,
-        rp: 0,
-    };
+    let start = Machine::at(PROGRAM_START, 0, 0);
 
     let mut own = dirty.clone();
     let loaded = calls::load(given, own.lend(), &[7, 8, 9]);

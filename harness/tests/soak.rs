@@ -59,6 +59,8 @@ fn machine_round(seed: u64) -> u64 {
         pair.machine.pc = random.short();
         pair.machine.wp = random.byte();
         pair.machine.rp = random.byte();
+        pair.machine.wp_high = random.byte();
+        pair.machine.rp_high = random.byte();
         let at = usize::from(pair.machine.pc);
         pair.put(Part::Memory, at, &[byte]);
         for _ in 0..8 {

@@ -18,7 +18,7 @@ static ucontext_t host, guest;
 
 #define BUFFERS memory, sizeof memory, device_page, sizeof device_page, working, sizeof working, ret, sizeof ret
 
-static const uxn_machine start = {0x0100, 8, 8};
+static const uxn_machine start = {0x0100, 8, 8, 0, 0};
 
 static void none(void) {}
 static void load(void) { uxn_load(start, BUFFERS, program, length); }

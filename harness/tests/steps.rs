@@ -62,7 +62,11 @@ impl States {
         }
         self.pair
             .put(Part::Memory, usize::from(machine.pc), &[byte]);
-        self.pair.machine = machine;
+        self.pair.machine = Machine {
+            wp_high: self.pointer(),
+            rp_high: self.pointer(),
+            ..machine
+        };
         self.pair.step();
     }
 }
@@ -74,7 +78,7 @@ fn every_byte_with_pointers_and_counters_at_the_ends() {
         for wp in POINTERS {
             for rp in POINTERS {
                 for pc in COUNTERS {
-                    states.step(byte, Machine { pc, wp, rp }, &[]);
+                    states.step(byte, Machine::at(pc, wp, rp), &[]);
                 }
             }
         }
@@ -97,7 +101,7 @@ fn every_byte_with_operands_at_the_ends() {
                     }
                     tops[4..].copy_from_slice(&[second, top]);
                     let (wp, rp) = (states.pointer(), states.pointer());
-                    states.step(byte, Machine { pc, wp, rp }, &tops);
+                    states.step(byte, Machine::at(pc, wp, rp), &tops);
                 }
             }
         }
@@ -118,14 +122,9 @@ fn every_pair_of_operands() {
                     states.pair.make_dirty(&mut states.random);
                 }
                 states.made += 1;
-                let machine = Machine {
-                    pc: 0x0100,
-                    wp: 9,
-                    rp: 0,
-                };
                 states.pair.put(Part::Memory, 0x0100, &[byte]);
                 states.pair.put(Part::Working, 7, &[second, top]);
-                states.pair.machine = machine;
+                states.pair.machine = Machine::at(0x0100, 9, 0);
                 states.pair.step();
             }
         }
@@ -147,11 +146,7 @@ fn products_of_every_length() {
         for second in &numbers {
             for top in &numbers {
                 let tops = [second.to_be_bytes(), top.to_be_bytes()].concat();
-                let machine = Machine {
-                    pc: states.counter(),
-                    wp: states.pointer(),
-                    rp: states.pointer(),
-                };
+                let machine = Machine::at(states.counter(), states.pointer(), states.pointer());
                 states.step(byte, machine, &tops);
             }
         }
@@ -164,11 +159,7 @@ fn every_byte_from_random_states() {
     let mut states = States::new();
     for _ in 0..6_000 {
         for byte in 0..=255 {
-            let machine = Machine {
-                pc: states.counter(),
-                wp: states.pointer(),
-                rp: states.pointer(),
-            };
+            let machine = Machine::at(states.counter(), states.pointer(), states.pointer());
             states.step(byte, machine, &[]);
         }
     }

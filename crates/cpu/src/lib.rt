@@ -5,9 +5,10 @@ use model::Machine;
 ghost use mathlib.Core.Path.{_≡_};
 ghost use Prim.Native.Nat.{_≤_};
 ghost use Rattle.model.specs.Machine.{state, Sized};
+ghost use Rattle.model.specs.Bytes as bytes;
 ghost use Rattle.model.specs.Run as model;
 ghost use Rattle.execute.specs.Stepped.{ofStepped};
-ghost use Rattle.cpu.specs.Ended.{unspent, ofEnd, endedBy};
+ghost use Rattle.cpu.specs.Ended.{carriedOut, raisedRecord, unspent, ofEnd, endedBy};
 
 // How a run ended, with the machine record afterwards and the part of the budget that is not spent: the loop counts down, and its
 // callers count the steps.
@@ -16,7 +17,7 @@ pub enum End {
     Spent(Machine),
 }
 
-// One instruction. It has one caller, the loop of `run`, and is inlined there.
+// One instruction, the high marks aside. It has one caller, the loop of `run`, and is inlined there.
 pub fn step(
     m: Machine,
     memory: &mut [u8],
@@ -26,20 +27,42 @@ pub fn step(
 ) -> Stepped
     requires { ⌜ Sized (state (now memory) (now devices) (now work) (now ret) m) ⌝ }
     ensures { λ r. ⌜ ofStepped (state (now (memory .exit)) (now (devices .exit)) (now (work .exit)) (now (ret .exit))) r
-        ≡ model.stepReply (state (now (memory .entry)) (now (devices .entry)) (now (work .entry)) (now (ret .entry)) m) ⌝ }
+        ≡ carriedOut (state (now (memory .entry)) (now (devices .entry)) (now (work .entry)) (now (ret .entry)) m) ⌝ }
 {
     let at = m.pc;
     let byte = memory[at as usize];
     execute(m, memory, devices, work, ret, byte % 128, 128 <= byte)
 }
 
-// The end of a run whose last step answered this.
+fn greater(a: u8, b: u8) -> u8
+    ensures { λ r. ⌜ r ≡ bytes.greater a b ⌝ }
+{
+    if a < b { b } else { a }
+}
+
+// The high marks after a step. Few steps raise one: the test is a branch, and costs less than two greatest numbers at each step.
+fn raise(m: Machine) -> Machine
+    ensures { λ r. ⌜ r ≡ raisedRecord m ⌝ }
+{
+    if m.wp_high < m.wp || m.rp_high < m.rp {
+        return Machine {
+            pc: m.pc,
+            wp: m.wp,
+            rp: m.rp,
+            wp_high: greater(m.wp_high, m.wp),
+            rp_high: greater(m.rp_high, m.rp),
+        };
+    }
+    m
+}
+
+// The end of a run whose last instruction answered this.
 fn ended(reply: Stepped, left: u32) -> End
     ensures { λ r. ⌜ r ≡ endedBy reply left ⌝ }
 {
     match reply {
-        Stepped::WentOn(m) => End::Spent(m),
-        Stepped::Broke(m) => End::Broke(m, left),
+        Stepped::WentOn(m) => End::Spent(raise(m)),
+        Stepped::Broke(m) => End::Broke(raise(m), left),
     }
 }
 
@@ -60,16 +83,39 @@ pub fn run(
     let mut pc = m.pc;
     let mut wp = m.wp;
     let mut rp = m.rp;
+    let mut wp_high = m.wp_high;
+    let mut rp_high = m.rp_high;
     let mut left = budget;
     while 0 < left {
-        let reply = step(Machine { pc, wp, rp }, memory, devices, work, ret);
+        let reply = step(
+            Machine {
+                pc,
+                wp,
+                rp,
+                wp_high,
+                rp_high,
+            },
+            memory,
+            devices,
+            work,
+            ret,
+        );
         left -= 1;
         let Stepped::WentOn(next) = reply else {
             return ended(reply, left);
         };
-        pc = next.pc;
-        wp = next.wp;
-        rp = next.rp;
+        let raised = raise(next);
+        pc = raised.pc;
+        wp = raised.wp;
+        rp = raised.rp;
+        wp_high = raised.wp_high;
+        rp_high = raised.rp_high;
     }
-    End::Spent(Machine { pc, wp, rp })
+    End::Spent(Machine {
+        pc,
+        wp,
+        rp,
+        wp_high,
+        rp_high,
+    })
 }

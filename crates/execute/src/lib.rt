@@ -41,7 +41,7 @@ pub enum Stepped {
 }
 
 // Each arm is an operation in 8-bit or 16-bit form; the arms 00, 20, 40 and 60 are the exceptions, LIT where keep is set and else
-// BRK, JCI, JMI and JSI.
+// BRK, JCI, JMI and JSI. The high marks are handed through: the run raises them after each step.
 pub fn execute(
     m: Machine,
     memory: &mut [u8],
@@ -59,13 +59,21 @@ pub fn execute(
     let mut pc = wrapping_add_u16(at, 1);
     let mut wp = m.wp;
     let mut rp = m.rp;
+    let wp_high = m.wp_high;
+    let rp_high = m.rp_high;
     match key {
         0x00 => {
             if keep {
                 pc = wrapping_add_u16(at, 2);
                 wp = lit(memory, work, at, wp, false);
             } else {
-                return Stepped::Broke(Machine { pc, wp, rp });
+                return Stepped::Broke(Machine {
+                    pc,
+                    wp,
+                    rp,
+                    wp_high,
+                    rp_high,
+                });
             }
         }
         0x01 => wp = inc(work, wp, false, keep),
@@ -323,5 +331,11 @@ pub fn execute(
         0x7e => rp = compute(ret, rp, true, keep, 6),
         _ => rp = sft(ret, rp, true, keep),
     }
-    Stepped::WentOn(Machine { pc, wp, rp })
+    Stepped::WentOn(Machine {
+        pc,
+        wp,
+        rp,
+        wp_high,
+        rp_high,
+    })
 }

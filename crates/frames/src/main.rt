@@ -20,6 +20,8 @@ fn run(program: &[u8], records: i32, records_path: &[u8]) {
         pc: 0,
         wp: 0,
         rp: 0,
+        wp_high: 0,
+        rp_high: 0,
     };
     // "A program refused at load gives that one line alone."
     let mut line = [0u8; 12];

@@ -16,7 +16,7 @@ use Rattle.model.specs.Run.Answer.{Refused, Loaded, Broke, Spent, Admitted}
 use Rattle.model.specs.Admission.{sheetRecord}
 use Rattle.model.specs.Calls.{loadCall, frameCall, frameTrace, admitCall}
 use Rattle.model.specs.Cases.{used, frameRecord}
-use Rattle.model.specs.Demand3.{Filling, Lent, Call, filled, given, handedBack, called, next, Safe}
+use Rattle.model.specs.Demand3.{Filling, Lent, Call, filled, given, handedBack, called, next, greatestOf, greatestDepth, Safe}
 use Rattle.model.specs.Demand3.Lent.{own, other}
 use Rattle.model.proofs.Bytes.{nil-bytes, cons-bytes}
 use Rattle.model.proofs.Tests.{and-left, and-right}
@@ -112,6 +112,22 @@ pub answers : replies (loadCall filter used .state) calls
     ≡ (Broke, 46, 1) ∷ (Refused 8, 0, 0) ∷ (Refused 7, 0, 0) ∷ (Refused 1, 0, 0) ∷ (Refused 2, 0, 0) ∷ (Spent, 0, 0) ∷ (Spent, 20, 0) ∷ (Broke, 35, 0) ∷ []
 unfolding calls filling filter used filled given handedBack calling
 answers = refl
+
+-- ---- C-20: the high marks after each of them: a refused call leaves them, a frame call sets them to 0 first
+
+abbrev pub marksAfter : State → List Call → List (ℕ × ℕ)
+marksAfter s [] = []
+marksAfter s (c ∷ cs) = let t = next c s in (t .high .work, t .high .ret) ∷ marksAfter t cs
+
+pub marks-met : marksAfter (loadCall filter used .state) calls
+    ≡ (3, 2) ∷ (3, 2) ∷ (3, 2) ∷ (3, 2) ∷ (3, 2) ∷ (0, 0) ∷ (3, 2) ∷ (3, 2) ∷ []
+unfolding calls filling filter used filled given handedBack calling
+marks-met = refl
+
+-- the greatest depths of its sheet: no smaller bound holds
+pub greatest-met : (greatestDepth 1 (admitCall filter (zeros (sheetRecord * 34)) .sheet) ≡ 3) × (greatestDepth 2 (admitCall filter (zeros (sheetRecord * 34)) .sheet) ≡ 2)
+unfolding filter greatestOf calling
+greatest-met = (refl, refl)
 
 -- ---- C-19: a filter with subroutines, which passes the frames whose first two data bytes are the same
 

@@ -87,7 +87,7 @@ step-is stateOf s e h = stepped stateOf (breaks s) (step s) e (h ∙ one-step s)
 
 pub load-is : (program : List ℕ) (s : State) {m d w r : List ℕ} → Sized s → m ≡ load program .memory → d ≡ zeros (length (s .devices))
     → w ≡ zeros (length (s .work .bytes)) → r ≡ zeros (length (s .ret .bytes))
-    → reply Loaded 0 0 (state m d w r (record { pc = start; wp = 0; rp = 0 })) ≡ reply Loaded 0 0 (load program)
+    → reply Loaded 0 0 (state m d w r (record { pc = start; wp = 0; rp = 0; «wp_high» = 0; «rp_high» = 0 })) ≡ reply Loaded 0 0 (load program)
 unfolding load
 load-is program s z hm hd hw hr = rw (hm, hd, hw, hr, z .devices, z .work, z .ret)
 
@@ -108,6 +108,6 @@ runs-from device budget s e z h = rw (← e, ne-eqb _ _ z) h
 -- ---- frame
 
 pub framed-is : (frame : List ℕ) (s : State) {m d : List ℕ} → m ≡ take framePlace (s .memory) ++ frame ++ drop (framePlace + length frame) (s .memory)
-    → d ≡ set (s .devices) verdictPort 0 → state m d (s .work .bytes) (s .ret .bytes) (record { pc = start; wp = 0; rp = 0 }) ≡ framed frame s
+    → d ≡ set (s .devices) verdictPort 0 → state m d (s .work .bytes) (s .ret .bytes) (record { pc = start; wp = 0; rp = 0; «wp_high» = 0; «rp_high» = 0 }) ≡ framed frame s
 unfolding framed
 framed-is frame s h g = rw (h, g)

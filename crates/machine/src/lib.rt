@@ -31,7 +31,8 @@ const START: u16 = 0x0100;
 // Device d has the ports from 16 x d on.
 const DEVICE_PORTS: u16 = 16;
 
-// "memory is zero but for the program at 0100 hexadecimal; device page and stacks are zero; both pointers 0; counter 0100"
+// "memory is zero but for the program at 0100 hexadecimal; device page and stacks are zero; both pointers 0; counter 0100";
+// C-20: the high marks are 0
 pub fn load(
     m: Machine,
     memory: &mut [u8],
@@ -55,6 +56,8 @@ pub fn load(
         pc: START,
         wp: 0,
         rp: 0,
+        wp_high: 0,
+        rp_high: 0,
     })
 }
 
@@ -95,7 +98,8 @@ pub fn run(
     run_of(cpu::run(m, memory, devices, work, ret, budget), budget)
 }
 
-// "Zero: Ignored, 0 steps, nothing changed. Else run from it; stacks and pointers are retained."
+// "Zero: Ignored, 0 steps, nothing changed. Else run from it; stacks and pointers are retained.", C-20: and the
+// high marks
 pub fn event(
     m: Machine,
     memory: &mut [u8],
@@ -121,6 +125,8 @@ pub fn event(
             pc: vector,
             wp: m.wp,
             rp: m.rp,
+            wp_high: m.wp_high,
+            rp_high: m.rp_high,
         },
         memory,
         devices,
@@ -132,7 +138,7 @@ pub fn event(
 }
 
 // "Port F2 is set to 0, the record is written to memory 0080 to 00BF, both pointers become 0, and the program runs from 0100
-// with the budget given."
+// with the budget given."; C-20: the high marks become 0
 pub fn frame(
     m: Machine,
     memory: &mut [u8],
@@ -156,6 +162,8 @@ pub fn frame(
             pc: START,
             wp: 0,
             rp: 0,
+            wp_high: 0,
+            rp_high: 0,
         },
         memory,
         devices,

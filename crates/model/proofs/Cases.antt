@@ -11,7 +11,8 @@ use Rattle.model.specs.Step.{popWraps, pushWraps, stackWraps}
 use Rattle.model.specs.Run.{run}
 use Rattle.model.specs.Run.Answer.{Admitted}
 use Rattle.model.specs.Calls.{hasLength, unless, loadMost, load, loadCall, admitCall}
-use Rattle.model.specs.Cases.{Case, claimed, allClaimed, used, loadAndRun, allHold, starred, mistakes, sentences, example, exampleSheet, callExample, callSheet, subroutines, depthsFine, depthsNot, callDepthsFine, callDepthsNot, depthsAre, rotateTests, callTests, numbered, agree, summing, framesSeen, vectored, eventsSeen, wrapping, notWrapping, wrapsAre, moveCases, allCome}
+use Rattle.model.specs.Demand3.{greatestOf}
+use Rattle.model.specs.Cases.{Case, claimed, allClaimed, used, loadAndRun, allHold, starred, mistakes, sentences, example, exampleSheet, callExample, callSheet, subroutines, marksRaised, depthsFine, depthsNot, callDepthsFine, callDepthsNot, depthsAre, rotateTests, callTests, numbered, agree, greatestDepths, summing, framesSeen, vectored, eventsSeen, wrapping, notWrapping, wrapsAre, moveCases, allCome}
 use Rattle.model.proofs.Tests.{and-left, and-right, and-both, not-true}
 use Rattle.model.proofs.Numbers.{load-right, load-passed, load-sized, run-passed}
 use Rattle.model.proofs.Computing.{stepping, admitting, calling, moving}
@@ -78,6 +79,10 @@ pub subroutines-hold : T (allHold subroutines)
 unfolding subroutines allClaimed claimed calling
 subroutines-hold = all-hold subroutines tt
 
+pub marks-hold : T (allHold marksRaised)
+unfolding marksRaised allClaimed claimed calling
+marks-hold = all-hold marksRaised tt
+
 pub depths-hold : T (depthsAre rotateTests true depthsFine) × T (depthsAre rotateTests false depthsNot)
 unfolding depthsAre depthsFine depthsNot admitting
 depths-hold = (tt, tt)
@@ -89,6 +94,10 @@ call-depths-hold = (tt, tt)
 pub numbers-hold : T (agree numbered)
 unfolding numbered used calling
 numbers-hold = tt
+
+pub depths-of-sheets : T (agree greatestDepths)
+unfolding greatestDepths greatestOf exampleSheet callSheet
+depths-of-sheets = tt
 
 pub frames-hold : T (agree framesSeen)
 unfolding framesSeen summing used calling

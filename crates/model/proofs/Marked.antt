@@ -11,9 +11,9 @@ use lib.ListN.{length, getD, take, drop}
 use lib.Seq.{getD-take, getD-drop}
 use borrow.Author.Tests.{eqb-true, eqb-false, ltb-false}
 use Rattle.model.specs.Bytes.{Bytes, Every, oneOf, number, readRing}
-use Rattle.model.specs.Machine.{memorySize, start, State, Sized, InRange, lowered, operands}
+use Rattle.model.specs.Machine.{memorySize, start, State, Sized, InRange, pushed, popped, lowered, operands}
 use Rattle.model.specs.Instruction.{keepMode, shapeOf, rowOf, working, returning, takenFrom, pushedOn, lengthOf}
-use Rattle.model.specs.Step.{effect, effectOn, applied, operated, execute, fetched, step, breaks, stackWraps, wraps}
+use Rattle.model.specs.Step.{effect, effectOn, words, mainAfter, otherAfter, applied, operated, execute, fetched, step, breaks, stackWraps, wraps}
 use Rattle.model.specs.Admission.{admitMost, Mark, byteAt, Within, allowed, depthAfter, markAfter, afterOf, targetOf, successors, GoesOn, Leaves, floor, Rules, Assignment}
 use Rattle.model.specs.Admission.Mark.{marked}
 use Rattle.model.specs.Demand3.{Intact, openAfter, Lands}
@@ -77,6 +77,11 @@ stack-no-wrap k byte p low h l =
     (push-no-wrap (pushedOn k byte) _ (omega arith))
 
 -- ---- one step
+
+-- BRK leaves both pointers
+pub brk-stays : (s : State) → breaks s ≡ true → (step s .work .pointer ≡ s .work .pointer) × (step s .ret .pointer ≡ s .ret .pointer)
+unfolding step execute operated applied mainAfter otherAfter words pushed lowered popped decoding
+brk-stays s e = let b = eqb-true (fetched s) 0x00 e in (ap (λ n. execute n s .work .pointer) b, ap (λ n. execute n s .ret .pointer) b)
 
 -- The program stands in memory, the counter is at an address that is marked with the two pointers, the addresses after the open
 -- calls stand on the return stack, the buffers have their lengths, and every number its width

@@ -6,7 +6,7 @@ use Prim.Native.Nat.{ℕ, zero, suc, _+_, _-_, _*_}
 use lib.Dec.{eqb, ltb, leb}
 use lib.ListN.{length, getD, set, take, drop}
 use Rattle.model.specs.Bytes.{number, readRing, zeros}
-use Rattle.model.specs.Machine.{memorySize, pageSize, stackSize, start, stack, State}
+use Rattle.model.specs.Machine.{memorySize, pageSize, stackSize, start, stack, highMarks, State}
 use Rattle.model.specs.Run.{Answer, Reply, reply, stepReply, run, trace}
 use Rattle.model.specs.Run.Answer.{Refused, Loaded, WentOn, Broke, Spent, Ignored, Admitted}
 use Rattle.model.specs.Admission.{admitMost, admitted, reached, sheetRecord, sheetOf}
@@ -52,7 +52,7 @@ unless (suc n) s done = reply (Refused (suc n)) 0 0 s
 
 -- the state, its counter at this address
 abbrev pub from : ℕ → State → State
-from at s = record { memory = s .memory; devices = s .devices; work = s .work; ret = s .ret; pc = at }
+from at s = record { memory = s .memory; devices = s .devices; work = s .work; ret = s .ret; pc = at; high = s .high }
 
 -- ---- load
 
@@ -64,7 +64,8 @@ loadMost = 65280
 unfoldable pub loadRows : List ℕ → State → List Row
 loadRows program s = bufferRows s ++ ((5, hasLength program 0 || ltb loadMost (length program)) ∷ [])
 
--- "memory is zero but for the program at 0100 hexadecimal; device page and stacks are zero; both pointers 0; counter 0100"
+-- "memory is zero but for the program at 0100 hexadecimal; device page and stacks are zero; both pointers 0; counter 0100";
+-- C-20: the high marks are 0
 unfoldable pub load : List ℕ → State
 load program =
     record {
@@ -73,6 +74,7 @@ load program =
       work = stack (zeros stackSize) 0;
       ret = stack (zeros stackSize) 0;
       pc = start;
+      high = highMarks 0 0;
     }
 
 unfoldable pub loadCall : List ℕ → State → Reply
@@ -96,7 +98,8 @@ eventRows device s = bufferRows s ++ ((6, ltb 15 device) ∷ [])
 unfoldable pub vector : ℕ → State → ℕ
 vector device s = number (readRing pageSize (s .devices) (16 * device) 2)
 
--- "Zero: Ignored, 0 steps, nothing changed. Else run from it; stacks and pointers are retained."
+-- "Zero: Ignored, 0 steps, nothing changed. Else run from it; stacks and pointers are retained.", C-20: and the
+-- high marks, for it is no frame start
 unfoldable pub eventCall : ℕ → ℕ → State → Reply
 eventCall device budget s =
     unless (refusal (eventRows device s)) s
@@ -131,7 +134,8 @@ unfoldable pub frameRows : List ℕ → State → List Row
 frameRows frame s =
     bufferRows s ++ ((7, not (hasLength frame frameSize)) ∷ (8, not (wellFormed frameMost frame)) ∷ [])
 
--- "Port F2 is set to 0, the record is written to memory 0080 to 00BF, both pointers become 0", and the counter 0100
+-- "Port F2 is set to 0, the record is written to memory 0080 to 00BF, both pointers become 0", and the counter 0100;
+-- C-20: the high marks become 0
 unfoldable pub framed : List ℕ → State → State
 framed frame s =
     record {
@@ -140,6 +144,7 @@ framed frame s =
       work = stack (s .work .bytes) 0;
       ret = stack (s .ret .bytes) 0;
       pc = start;
+      high = highMarks 0 0;
     }
 
 -- "The verdict is port F2 if Broke and 0 if Spent"

@@ -8,7 +8,7 @@ use Prim.Native.Nat.{ℕ, _+_, _*_, _-_}
 use lib.Dec.{eqb}
 use lib.ListN.{length, getD, take, replicate}
 use Rattle.model.specs.Bytes.{number, readRing, zeros}
-use Rattle.model.specs.Machine.{memorySize, pageSize, stackSize, start, Stack, stack, State}
+use Rattle.model.specs.Machine.{memorySize, pageSize, stackSize, start, Stack, stack, highMarks, State}
 use Rattle.model.specs.Instruction.{working, returning}
 use Rattle.model.specs.Step.{stackWraps}
 use Rattle.model.specs.Admission.{all, ruleTests, sheetRecord}
@@ -17,12 +17,13 @@ use Rattle.model.specs.Run.Answer.{Refused, Loaded, WentOn, Broke, Spent
 use Rattle.model.specs.Writes.{WriteResult, written, unwritten}
 use Rattle.model.specs.Moves.{widenCall, narrowCall}
 use Rattle.model.specs.Calls.{numberOf, frameSize, loadCall, stepCall, runCall, eventCall, frameCall, admitCall}
+use Rattle.model.specs.Demand3.{greatestDepth}
 
--- what may be claimed: the answer of the run, its steps, the counter and a stack's pointer afterwards, all the bytes of a
--- stack, byte i of the working stack's buffer, and the answer of admission
+-- what may be claimed: the answer of the run, its steps, the counter, a stack's pointer and the high marks afterwards, all the bytes
+-- of a stack, byte i of the working stack's buffer, and the answer of admission
 pub data Claim : Type 0 where
   answers : Answer → Claim
-  steps counter workPointer : ℕ → Claim
+  steps counter workPointer workHigh retHigh : ℕ → Claim
   workIs retIs : List ℕ → Claim
   workByte : ℕ → ℕ → Claim
   admission : Answer → Claim
@@ -62,6 +63,8 @@ claimed program r (answers a) = sameAnswer (r .answer) a
 claimed program r (steps n) = eqb (r .steps) n
 claimed program r (counter n) = eqb (r .state .pc) n
 claimed program r (workPointer n) = eqb (r .state .work .pointer) n
+claimed program r (workHigh n) = eqb (r .state .high .work) n
+claimed program r (retHigh n) = eqb (r .state .high .ret) n
 claimed program r (workIs bytes) = stackIs (r .state .work) bytes
 claimed program r (retIs bytes) = stackIs (r .state .ret) bytes
 claimed program r (workByte i b) = eqb (getD (r .state .work .bytes) i 0) b
@@ -80,6 +83,7 @@ usedWith m d w r =
       work = stack (replicate w 0xAA) 0xAA;
       ret = stack (replicate r 0xAA) 0xAA;
       pc = 0xAAAA;
+      high = highMarks 0xAA 0xAA;
     }
 
 -- with the right lengths: nothing of it is left after a load
@@ -294,6 +298,29 @@ subroutines =
     (admission (Refused 11) ∷ [])
     ∷ []
 
+-- C-20: "High marks in the machine record."
+unfoldable pub marksRaised : List Case
+marksRaised =
+    -- "the greatest pointer value": 2 after the second LIT, 1 at the end
+    case (0x80 ∷ 0x05 ∷ 0x80 ∷ 0x03 ∷ 0x18 ∷ 0x00 ∷ []) enough
+    (workPointer 1 ∷ workHigh 2 ∷ retHigh 0 ∷ [])
+    -- "after any step": none was taken
+    ∷ case (0x80 ∷ 0x05 ∷ 0x00 ∷ []) 0
+    (workHigh 0 ∷ retHigh 0 ∷ [])
+    -- a call raises that of the return stack
+    ∷ case (0x60 ∷ 0x00 ∷ 0x01 ∷ 0x00 ∷ 0x80 ∷ 0x07 ∷ 0x6C ∷ []) enough
+    (workHigh 1 ∷ retHigh 2 ∷ retIs [] ∷ [])
+    -- in return mode the stacks change places, and each keeps its mark: LITr, LIT2r, DUP, LIT
+    ∷ case (0xC0 ∷ 0x05 ∷ 0xE0 ∷ 0x05 ∷ 0x06 ∷ 0x80 ∷ 0x01 ∷ 0x00 ∷ []) enough
+    (workHigh 1 ∷ retHigh 3 ∷ [])
+    -- a pointer that goes round: POP at 0 leaves it at 255
+    ∷ case (0x02 ∷ 0x00 ∷ []) enough
+    (workPointer 255 ∷ workHigh 255 ∷ [])
+    -- inside an instruction it does not count: INC at 0 is at 255 between its pop and its push
+    ∷ case (0x01 ∷ 0x00 ∷ []) enough
+    (workPointer 0 ∷ workHigh 0 ∷ [])
+    ∷ []
+
 -- "Admission that .. takes depth 256 for 0": working depths at which ROT2 with keep, which takes six bytes and pushes six,
 -- passes all the rules but the last, and at which it does not
 unfoldable pub depthsFine : List ℕ
@@ -353,6 +380,15 @@ abbrev pub agree : List (ℕ × ℕ) → Bool
 agree [] = true
 agree (pair ∷ pairs) = eqb (pair .0) (pair .1) && agree pairs
 
+-- C-20: the greatest depths of the two sheets above, working and return, and what they should be
+unfoldable pub greatestDepths : List (ℕ × ℕ)
+greatestDepths =
+    (greatestDepth 1 exampleSheet, 2)
+    ∷ (greatestDepth 2 exampleSheet, 0)
+    ∷ (greatestDepth 1 callSheet, 1)
+    ∷ (greatestDepth 2 callSheet, 2)
+    ∷ []
+
 -- ---- frame and event calls, one after the other: what is found, and what should be
 
 -- A filter whose verdict is the first data byte plus what port F2 holds, and which leaves a byte on the working stack:
@@ -360,12 +396,16 @@ agree (pair ∷ pairs) = eqb (pair .0) (pair .1) && agree pairs
 unfoldable pub summing : List ℕ
 summing = 0x80 ∷ 0x82 ∷ 0x10 ∷ 0x80 ∷ 0xF2 ∷ 0x16 ∷ 0x18 ∷ 0x80 ∷ 0xF2 ∷ 0x17 ∷ 0x80 ∷ 0x09 ∷ 0x00 ∷ []
 
--- a load; a frame that is Broke; one that is Spent just before BRK; one that is Broke again
+-- a load; a frame that is Broke; one that is Spent just before BRK; one that is Broke again; after it one that is refused, one with a
+-- budget of one step, and one with none
 unfoldable pub framesSeen : List (ℕ × ℕ)
 framesSeen =
     let a = frameCall (frameRecord 1 (0x03 ∷ [])) 9 (loadCall summing used .state) in
     let b = frameCall (frameRecord 1 (0x04 ∷ [])) 8 (a .state) in
     let c = frameCall (frameRecord 1 (0x05 ∷ [])) 10000 (b .state) in
+    let d = frameCall [] 10000 (c .state) in
+    let e = frameCall (frameRecord 1 (0x06 ∷ [])) 1 (c .state) in
+    let f = frameCall (frameRecord 1 (0x06 ∷ [])) 0 (c .state) in
     (answerCode (a .answer), answerCode Broke)
     ∷ (a .steps, 9)
     ∷ (a .verdict, 3)
@@ -379,9 +419,17 @@ framesSeen =
     ∷ (c .state .ret .pointer, 0)
     ∷ (c .state .pc, 0x010D)
     ∷ (number (readRing memorySize (c .state .memory) 0x0080 3), 0x010705)
+    ∷ (a .state .high .work, 2)
+    ∷ (a .state .high .ret, 0)
+    ∷ (b .state .high .work, 2)
+    ∷ (numberOf (d .answer), 7)
+    ∷ (d .state .high .work, 2)
+    ∷ (e .state .high .work, 1)
+    ∷ (f .state .high .work, 0)
     ∷ []
 
--- a machine with zeros in memory, device 1 with the vector 0200, device 2 with the vector 0
+-- a machine with zeros in memory, device 1 with the vector 0200, device 2 with the vector 0; the high mark of
+-- the return stack is below its pointer
 unfoldable pub vectored : State
 vectored =
     record {
@@ -390,6 +438,7 @@ vectored =
       work = stack (zeros stackSize) 3;
       ret = stack (zeros stackSize) 4;
       pc = 0x0300;
+      high = highMarks 7 2;
     }
 
 unfoldable pub eventsSeen : List (ℕ × ℕ)
@@ -408,6 +457,10 @@ eventsSeen =
     ∷ (answerCode (c .answer), answerCode Ignored)
     ∷ (c .steps, 0)
     ∷ (c .state .pc, 0x0300)
+    ∷ (a .state .high .work, 7)
+    ∷ (a .state .high .ret, 4)
+    ∷ (b .state .high .ret, 2)
+    ∷ (c .state .high .ret, 2)
     ∷ []
 
 -- ---- "A step wraps a stack where a pop, a read under keep or a push goes round between 0 and 255."

@@ -1,18 +1,18 @@
 -- Demand 3, in the user's words (quoted), with document 01's "What the inspector signs" (quoted, marked 01) and document 02's
--- C-19.
+-- C-19 and C-20.
 -- Assumes nothing.
 use mathlib.Core.Path.{_≡_}
 use mathlib.Core.Bool.{false, cond}
 use mathlib.Core.List.{List, [], _∷_, _++_}
-use Prim.Native.Nat.{ℕ}
+use Prim.Native.Nat.{ℕ, zero, suc, _+_, _/_, _≤_}
 use lib.Dec.{eqb}
 use lib.ListN.{length, take, drop}
-use Rattle.model.specs.Bytes.{Every, Bytes}
+use Rattle.model.specs.Bytes.{Every, Bytes, greater}
 use Rattle.model.specs.Machine.{memorySize, pageSize, stackSize, start, State, state, registers}
 use Rattle.model.specs.Instruction.{shapeOf}
 use Rattle.model.specs.Step.{nextOf, fetched, step, wraps}
 use Rattle.model.specs.Run.Answer.{Loaded, Admitted}
-use Rattle.model.specs.Admission.{Marked, recordByte}
+use Rattle.model.specs.Admission.{sheetRecord, Marked, recordByte}
 use Rattle.model.specs.Calls.{loadCall, frameCall, frameTrace, admitCall}
 use Rattle.model.specs.Exactness.{Exact}
 
@@ -130,11 +130,27 @@ abbrev pub EachLands : List ℕ → List State → Type 0
 EachLands opened [] = Unit {0}
 EachLands opened (s ∷ states) = Lands opened s × EachLands (openAfter s opened) states
 
--- along the list: "Before every step", and "after every call", and before the first one; a frame call starts with no call open
+-- C-20: the greatest of byte k of the sheet's first n records
+unfoldable pub greatestOf : ℕ → ℕ → List ℕ → ℕ
+greatestOf k zero sheet = 0
+greatestOf k (suc n) sheet = greater (greatestOf k n sheet) (recordByte sheet (start + n) k)
+
+-- C-20: "the greatest depth in its sheet column", of all records: with k = 1 the working depths, with k = 2 the return depths
+abbrev pub greatestDepth : ℕ → List ℕ → ℕ
+greatestDepth k sheet = greatestOf k (length sheet / sheetRecord) sheet
+
+-- C-20: "each is at most the greatest depth in its sheet column"
+pub record HighInSheet (sheet : List ℕ) (s : State) : Type 0 where
+  pub work : s .high .work ≤ greatestDepth 1 sheet
+  pub ret : s .high .ret ≤ greatestDepth 2 sheet
+
+-- along the list: "Before every step", and "after every call", and before the first one; a frame call starts with no call open;
+-- C-20: "After a frame call of demand 3 that is not refused", and after one that is, for it leaves the high marks
 abbrev pub Safe : (filter sheet : List ℕ) → State → List Call → Type 0
-Safe filter sheet s [] = Intact filter s
+Safe filter sheet s [] = Intact filter s × HighInSheet sheet s
 Safe filter sheet s (c ∷ cs) =
     Intact filter s
+    × HighInSheet sheet s
     × Every (Sound filter sheet) (frameTrace (c .frame) (c .budget) (called c s))
     × EachLands [] (frameTrace (c .frame) (c .budget) (called c s))
     × Safe filter sheet (next c s) cs

@@ -7,7 +7,7 @@ use native.Mathlib.Omega.{arith}
 use lib.Dec.{T, eqb, ltb, ltb→lt}
 use borrow.Author.Tests.{eq-eqb, ne-eqb}
 use Rattle.model.specs.Bytes.{word, number, readRing, writeRing}
-use Rattle.model.specs.Machine.{memorySize, Stack, stack, State, pushed, popped, lowered}
+use Rattle.model.specs.Machine.{memorySize, Stack, stack, HighMarks, State, pushed, popped, lowered}
 use Rattle.model.specs.Instruction.{Op, Comparison, Arithmetic, opAt, opOf, wide, size, returnMode, keepMode, shape}
 use Rattle.model.specs.Instruction.Op.{JCI, INC, POP, NIP, SWP, ROT, DUP, OVR, compare, JMP, JCN, JSR, STH, LDZ, STZ, LDR, STR, LDA, STA, DEI, DEO, compute, SFT}
 use Rattle.model.specs.Step.{offset, effect, effectOn, words, mainAfter, otherAfter, written, applied, exchanged, operated, execute}
@@ -17,8 +17,8 @@ use Rattle.model.proofs.Keys.{Beside, from-zero}
 use Rattle.operations.specs.After.{mainWith, executed, byteOf}
 
 -- the state after an operation, its main stack being the working stack, part by part
-abbrev pub left : List ℕ → List ℕ → Stack → Stack → ℕ → State
-left memory devices work ret pc = record { memory = memory; devices = devices; work = work; ret = ret; pc = pc }
+abbrev pub left : HighMarks → List ℕ → List ℕ → Stack → Stack → ℕ → State
+left high memory devices work ret pc = record { memory = memory; devices = devices; work = work; ret = ret; pc = pc; high = high }
 
 -- The operation touches its main stack alone, and uses this memory, this device page and this next address: those of the
 -- state, or none
@@ -58,7 +58,7 @@ by-size f false k p h = h
 -- n is the address after the instruction byte, q the pointer of the main stack afterwards
 module _ (w k : Bool) (s : State) {n : ℕ} (hn : n ≡ (s .pc + 1) % 65536) where
   pub pure-is : {m d : List ℕ} {a : ℕ} {o : Op} {t : Stack} → Pure s n m d a o → t ≡ mainWith m d a o w k (s .work)
-      → left (s .memory) (s .devices) t (s .ret) n ≡ applied o w k s
+      → left (s .high) (s .memory) (s .devices) t (s .ret) n ≡ applied o w k s
   unfolding opened
   pure-is inc g = rw (g, hn)
   pure-is pop g = rw (g, hn)
@@ -77,7 +77,7 @@ module _ (w k : Bool) (s : State) {n : ℕ} (hn : n ≡ (s .pc + 1) % 65536) whe
 
   pub store-is : {b a : ℕ} {o : Op} {m : List ℕ} {q : ℕ} → Stores n b a o
       → m ≡ written (effectOn [] [] a 0 o w (s .work)) (size w) (s .memory) → q ≡ lowered k (cond w (2 + b) (1 + b)) (s .work .pointer)
-      → left m (s .devices) (stack (s .work .bytes) q) (s .ret) n ≡ applied o w k s
+      → left (s .high) m (s .devices) (stack (s .work .bytes) q) (s .ret) n ≡ applied o w k s
   unfolding opened
   store-is stz g h = rw (g, by-size (λ i. i + 1) w k (s .work .pointer) h, hn)
   store-is str g h = rw (g, by-size (λ i. i + 1) w k (s .work .pointer) h, hn)
@@ -85,29 +85,29 @@ module _ (w k : Bool) (s : State) {n : ℕ} (hn : n ≡ (s .pc + 1) % 65536) whe
 
   pub deo-is : {d : List ℕ} {q : ℕ} → d ≡ written (effectOn [] [] 0 0 DEO w (s .work)) (size w) (s .devices)
       → q ≡ lowered k (cond w 3 2) (s .work .pointer)
-      → left (s .memory) d (stack (s .work .bytes) q) (s .ret) n ≡ applied DEO w k s
+      → left (s .high) (s .memory) d (stack (s .work .bytes) q) (s .ret) n ≡ applied DEO w k s
   unfolding opened
   deo-is g h = rw (g, by-size (λ i. i + 1) w k (s .work .pointer) h, hn)
 
   pub jmp-is : {r q : ℕ} → r ≡ effectOn [] [] n 0 JMP w (s .work) .target → q ≡ lowered k (cond w 2 1) (s .work .pointer)
-      → left (s .memory) (s .devices) (stack (s .work .bytes) q) (s .ret) r ≡ applied JMP w k s
+      → left (s .high) (s .memory) (s .devices) (stack (s .work .bytes) q) (s .ret) r ≡ applied JMP w k s
   unfolding opened
   jmp-is g h = rw (g, by-size (λ i. i + 0) w k (s .work .pointer) h, hn)
 
   pub jcn-is : {r q : ℕ} → r ≡ effectOn [] [] n 0 JCN w (s .work) .target → q ≡ lowered k (cond w 3 2) (s .work .pointer)
-      → left (s .memory) (s .devices) (stack (s .work .bytes) q) (s .ret) r ≡ applied JCN w k s
+      → left (s .high) (s .memory) (s .devices) (stack (s .work .bytes) q) (s .ret) r ≡ applied JCN w k s
   unfolding opened
   jcn-is g h = rw (g, by-size (λ i. 1 + (i + 0)) w k (s .work .pointer) h, hn)
 
   pub jsr-is : {r q : ℕ} {u : Stack} → r ≡ effectOn [] [] n 0 JMP w (s .work) .target → u ≡ pushed (word (size true) n) (s .ret)
       → q ≡ lowered k (cond w 2 1) (s .work .pointer)
-      → left (s .memory) (s .devices) (stack (s .work .bytes) q) u r ≡ applied JSR w k s
+      → left (s .high) (s .memory) (s .devices) (stack (s .work .bytes) q) u r ≡ applied JSR w k s
   unfolding opened
   jsr-is g f h = rw (g, f, by-size (λ i. i + 0) w k (s .work .pointer) h, hn)
 
   pub sth-is : {q : ℕ} {u : Stack} → u ≡ otherAfter STH w (effectOn [] [] 0 0 STH w (s .work)) (s .ret)
       → q ≡ lowered k (cond w 2 1) (s .work .pointer)
-      → left (s .memory) (s .devices) (stack (s .work .bytes) q) u n ≡ applied STH w k s
+      → left (s .high) (s .memory) (s .devices) (stack (s .work .bytes) q) u n ≡ applied STH w k s
   unfolding opened
   sth-is f h = rw (f, by-size (λ i. i + 0) w k (s .work .pointer) h, hn)
 
@@ -146,7 +146,7 @@ module _ (o : Op) (w k : Bool) (s : State) where
   unfolding operated
   on-work g = g
 
-  pub on-return : {m d : List ℕ} {t u : Stack} {n : ℕ} → left m d u t n ≡ applied o w k (exchanged true s) → left m d t u n ≡ operated o w true k s
+  pub on-return : {m d : List ℕ} {t u : Stack} {n : ℕ} → left (s .high) m d u t n ≡ applied o w k (exchanged true s) → left (s .high) m d t u n ≡ operated o w true k s
   unfolding operated
   on-return g = ap (exchanged true) g
 
@@ -162,31 +162,31 @@ decoded = tt
 
 module _ (s : State) {key : ℕ} {k : Bool} where
   pub brk-is : {n : ℕ} → key ≡ 0 → k ≡ false → n ≡ (s .pc + 1) % 65536
-      → reply Broke 1 0 (left (s .memory) (s .devices) (s .work) (s .ret) n) ≡ executed (byteOf key k) s
+      → reply Broke 1 0 (left (s .high) (s .memory) (s .devices) (s .work) (s .ret) n) ≡ executed (byteOf key k) s
   unfolding decoded
   brk-is e f hn = rw (e, f, hn)
 
   pub jci-is : {r q : ℕ} → key ≡ 32 → k ≡ false → r ≡ effectOn [] [] ((s .pc + 3) % 65536) (inlined s true) JCI false (s .work) .target
       → q ≡ lowered false 1 (s .work .pointer)
-      → reply WentOn 1 0 (left (s .memory) (s .devices) (stack (s .work .bytes) q) (s .ret) r) ≡ executed (byteOf key k) s
+      → reply WentOn 1 0 (left (s .high) (s .memory) (s .devices) (stack (s .work .bytes) q) (s .ret) r) ≡ executed (byteOf key k) s
   unfolding decoded
   jci-is e f hr hq = rw (e, f, hr, hq)
 
   pub jmi-is : {r : ℕ} → key ≡ 64 → k ≡ false → r ≡ offset ((s .pc + 3) % 65536) (inlined s true)
-      → reply WentOn 1 0 (left (s .memory) (s .devices) (s .work) (s .ret) r) ≡ executed (byteOf key k) s
+      → reply WentOn 1 0 (left (s .high) (s .memory) (s .devices) (s .work) (s .ret) r) ≡ executed (byteOf key k) s
   unfolding decoded
   jmi-is e f hr = rw (e, f, hr)
 
   pub jsi-is : {r n : ℕ} {t : Stack} → key ≡ 96 → k ≡ false → r ≡ offset ((s .pc + 3) % 65536) (inlined s true) → n ≡ (s .pc + 3) % 65536
       → t ≡ pushed (word (size true) n) (s .ret)
-      → reply WentOn 1 0 (left (s .memory) (s .devices) (s .work) t r) ≡ executed (byteOf key k) s
+      → reply WentOn 1 0 (left (s .high) (s .memory) (s .devices) (s .work) t r) ≡ executed (byteOf key k) s
   unfolding decoded
   jsi-is e f hr hn ht = rw (e, f, hr, ht, hn)
 
 -- LIT, in both widths and on either stack
 pub lit-is : (w r : Bool) (s : State) {key : ℕ} {k : Bool} {n : ℕ} {t : Stack} → key ≡ cond r 64 0 + cond w 32 0 → k ≡ true
     → n ≡ (s .pc + cond w 3 2) % 65536 → t ≡ pushed (word (size w) (inlined s w)) (exchanged r s .work)
-    → reply WentOn 1 0 (exchanged r (left (s .memory) (s .devices) t (exchanged r s .ret) n)) ≡ executed (byteOf key k) s
+    → reply WentOn 1 0 (exchanged r (left (s .high) (s .memory) (s .devices) t (exchanged r s .ret) n)) ≡ executed (byteOf key k) s
 unfolding decoded
 lit-is true true s e f hn ht = rw (e, f, hn, ht)
 lit-is true false s e f hn ht = rw (e, f, hn, ht)

@@ -1,5 +1,5 @@
 -- `cpu::run` meets its contract. Assumes nothing.
-use mathlib.Core.Path.{_≡_, sym, _∙_}
+use mathlib.Core.Path.{_≡_, refl, sym, _∙_}
 use Prim.Native.Nat.{_-_, _≤_}
 use native.Mathlib.Omega.{arith}
 use borrow.Author.Needs.{needs}
@@ -10,13 +10,13 @@ use Rattle.cpu.proofs.run.Statement.{statement}
 use Rattle.cpu.proofs.run.Tie as tie
 
 abbrev Inv-loop : tie.InvT-loop
-Inv-loop memory₀ devices₀ work₀ ret₀ budget pc₀ wp₀ rp₀ left₀ memory devices work ret pc wp rp left =
-    (left ≤ budget) × Sized (state memory devices work ret (record { pc = pc; wp = wp; rp = rp }))
-    × (more (budget - left) (run left (state memory devices work ret (record { pc = pc; wp = wp; rp = rp })))
-    ≡ run budget (state memory₀ devices₀ work₀ ret₀ (record { pc = pc₀; wp = wp₀; rp = rp₀ })))
+Inv-loop memory₀ devices₀ work₀ ret₀ budget pc₀ wp₀ rp₀ wh₀ rh₀ left₀ memory devices work ret pc wp rp wh rh left =
+    (left ≤ budget) × Sized (state memory devices work ret (record { pc = pc; wp = wp; rp = rp; «wp_high» = wh; «rp_high» = rh }))
+    × (more (budget - left) (run left (state memory devices work ret (record { pc = pc; wp = wp; rp = rp; «wp_high» = wh; «rp_high» = rh })))
+    ≡ run budget (state memory₀ devices₀ work₀ ret₀ (record { pc = pc₀; wp = wp₀; rp = rp₀; «wp_high» = wh₀; «rp_high» = rh₀ })))
 
 abbrev μ-loop : tie.MeasureT-loop
-μ-loop memory₀ devices₀ work₀ ret₀ budget pc₀ wp₀ rp₀ left₀ memory devices work ret pc wp rp left = left
+μ-loop memory₀ devices₀ work₀ ret₀ budget pc₀ wp₀ rp₀ wh₀ rh₀ left₀ memory devices work ret pc wp rp wh rh left = left
 
 loop-holds : tie.Need-loop-holds Inv-loop μ-loop
 loop-holds c = (omega arith, c .before .before .before .before .pre, starts _ _)
@@ -46,13 +46,13 @@ same-length-4 : tie.Need-same-length-4 Inv-loop μ-loop
 same-length-4 c = search needs
 
 returns : tie.Need-returns Inv-loop μ-loop
-returns c = rw (c .ended .ensures) (ends _ _ _ (omega arith) (c .before .before .before .before .before .before .before .before .before .before .before .before .before .before .before .before .before .loop .inv .0) _ _ (c .before .before .before .before .before .before .before .before .before .before .before .step .result) (c .before .before .match .keys2) (c .before .before .before .before .before .before .before .before .before .before .before .step .ensures) ∙ c .before .before .before .before .before .before .before .before .before .before .before .before .before .before .before .before .before .loop .inv .2, unspent-is (c .before .before .before .before .before .before .before .before .before .before .before .step .result) _ (omega arith))
+returns c = rw (c .ended .ensures) (ends _ _ _ (omega arith) (c .before .before .before .before .before .before .before .before .before .before .before .before .before .before .before .before .before .loop .inv .0) _ _ (λ m. refl) (c .before .before .before .before .before .before .before .before .before .before .before .step .result) (c .before .before .match .keys2) (c .before .before .before .before .before .before .before .before .before .before .before .step .ensures) ∙ c .before .before .before .before .before .before .before .before .before .before .before .before .before .before .before .before .before .loop .inv .2, unspent-is (c .before .before .before .before .before .before .before .before .before .before .before .step .result) _ (omega arith))
 
 loop-less : tie.Need-loop-less Inv-loop μ-loop
 loop-less c = omega arith
 
 loop-again : tie.Need-loop-again Inv-loop μ-loop
-loop-again c = (omega arith, search needs, sym (goes-on _ _ _ (omega arith) (c .before .before .before .before .before .before .before .before .before .before .before .before .before .before .before .before .before .loop .inv .0) _ _ _ (c .before .reply .given .1) (c .before .before .before .before .before .before .before .before .before .before .before .step .ensures)) ∙ c .before .before .before .before .before .before .before .before .before .before .before .before .before .before .before .before .before .loop .inv .2)
+loop-again c = (omega arith, search needs, rw (c .raise .ensures) (sym (goes-on _ _ _ (omega arith) (c .before .before .before .before .before .before .before .before .before .before .before .before .before .before .before .before .before .before .loop .inv .0) _ _ _ (c .before .before .reply .given .1) (c .before .before .before .before .before .before .before .before .before .before .before .before .step .ensures)) ∙ c .before .before .before .before .before .before .before .before .before .before .before .before .before .before .before .before .before .before .loop .inv .2))
 
 same-length-5 : tie.Need-same-length-5 Inv-loop μ-loop
 same-length-5 c = search needs
@@ -86,6 +86,7 @@ run-spec =
     same-length-3
     same-length-4
     returns
+    (λ c κs. search needs)
     loop-less
     loop-again
     same-length-5

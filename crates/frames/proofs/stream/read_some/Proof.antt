@@ -47,7 +47,7 @@ read-some-spec =
     (λ c. search needs)
     (λ c. search needs)
     (λ c. search needs)
-    (λ c. search needs)
+    (λ c. search (needs, c .before .before .before .before .before .before .before .before .before .block2 .given, c .before .before .before .before .before .before .before .before .before .before .before .before .before .before .before .before .before .before .before .before .before .before .before .before .before .before .before .before .before .before .block .given))
     (λ c. search needs)
     returns-3
     (λ c. search needs)
