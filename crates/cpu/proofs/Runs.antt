@@ -6,7 +6,7 @@ use Prim.Native.Nat.{ℕ, suc, _+_, _-_, _%_, _≤_, _<_}
 use native.Mathlib.Omega.{arith}
 use denote.Enum.Declared.{tagOf}
 use types.Run.{OneOf, miss}
-use lib.Dec.{ltb, leb}
+use lib.Dec.{leb}
 use borrow.Author.Tests.{leb-true, leb-false, lt-ltb, le-ltb}
 use Rattle.model.specs.Bytes.{greater}
 use Rattle.model.specs.Machine.{State, state}
@@ -27,9 +27,9 @@ whole : (b : ℕ) (k : Bool) → b < 256 → leb 128 b ≡ k → byteOf (b % 128
 whole b true l h = let g = leb-true 128 b h in omega arith
 whole b false l h = let g = leb-false 128 b h in omega arith
 
-pub step-is : (s : State) {t : Reply} → fetched s < 256 → t ≡ executed (byteOf (fetched s % 128) (leb 128 (fetched s))) s → t ≡ carriedOut s
+pub carries-out : (s : State) {t : Reply} → fetched s < 256 → t ≡ executed (byteOf (fetched s % 128) (leb 128 (fetched s))) s → t ≡ carriedOut s
 unfolding carriedOut
-step-is s l h = rw (whole (fetched s) (leb 128 (fetched s)) l refl) at h
+carries-out s l h = rw (whole (fetched s) (leb 128 (fetched s)) l refl) at h
 
 -- ---- the high marks
 

@@ -1,4 +1,4 @@
-// A step and a run, on buffers of the right lengths.
+// One instruction, the high marks after it, and a run, on buffers of the right lengths.
 use execute::Stepped;
 use execute::execute;
 use model::Machine;
@@ -17,8 +17,8 @@ pub enum End {
     Spent(Machine),
 }
 
-// One instruction, the high marks aside. It has one caller, the loop of `run`, and is inlined there.
-pub fn step(
+// The byte at the counter is carried out: a step, but for the high marks. It has one caller, the loop of `run`, and is inlined there.
+pub fn carry_out(
     m: Machine,
     memory: &mut [u8],
     devices: &mut [u8],
@@ -40,7 +40,7 @@ fn greater(a: u8, b: u8) -> u8
     if a < b { b } else { a }
 }
 
-// The high marks after a step. Few steps raise one: the test is a branch, and costs less than two greatest numbers at each step.
+// The high marks after a step. Hardly any step raises one, so it asks first: that branch costs less than the greater of two numbers twice.
 fn raise(m: Machine) -> Machine
     ensures { λ r. ⌜ r ≡ raisedRecord m ⌝ }
 {
@@ -87,7 +87,7 @@ pub fn run(
     let mut rp_high = m.rp_high;
     let mut left = budget;
     while 0 < left {
-        let reply = step(
+        let reply = carry_out(
             Machine {
                 pc,
                 wp,

@@ -21,8 +21,8 @@ abbrev μ-loop : tie.MeasureT-loop
 loop-holds : tie.Need-loop-holds Inv-loop μ-loop
 loop-holds c = (omega arith, c .before .before .before .before .pre, starts _ _)
 
-step-requires : tie.Need-step-requires Inv-loop μ-loop
-step-requires c κs = c .before .before .before .before .before .loop .inv .1
+carry-out-requires : tie.Need-carry-out-requires Inv-loop μ-loop
+carry-out-requires c κs = c .before .before .before .before .before .loop .inv .1
 
 sub-left : tie.Need-sub-left Inv-loop μ-loop
 sub-left c = omega arith
@@ -46,13 +46,13 @@ same-length-4 : tie.Need-same-length-4 Inv-loop μ-loop
 same-length-4 c = search needs
 
 returns : tie.Need-returns Inv-loop μ-loop
-returns c = rw (c .ended .ensures) (ends _ _ _ (omega arith) (c .before .before .before .before .before .before .before .before .before .before .before .before .before .before .before .before .before .loop .inv .0) _ _ (λ m. refl) (c .before .before .before .before .before .before .before .before .before .before .before .step .result) (c .before .before .match .keys2) (c .before .before .before .before .before .before .before .before .before .before .before .step .ensures) ∙ c .before .before .before .before .before .before .before .before .before .before .before .before .before .before .before .before .before .loop .inv .2, unspent-is (c .before .before .before .before .before .before .before .before .before .before .before .step .result) _ (omega arith))
+returns c = rw (c .ended .ensures) (ends _ _ _ (omega arith) (c .before .before .before .before .before .before .before .before .before .before .before .before .before .before .before .before .before .loop .inv .0) _ _ (λ m. refl) (c .before .before .before .before .before .before .before .before .before .before .before .carry-out .result) (c .before .before .match .keys2) (c .before .before .before .before .before .before .before .before .before .before .before .carry-out .ensures) ∙ c .before .before .before .before .before .before .before .before .before .before .before .before .before .before .before .before .before .loop .inv .2, unspent-is (c .before .before .before .before .before .before .before .before .before .before .before .carry-out .result) _ (omega arith))
 
 loop-less : tie.Need-loop-less Inv-loop μ-loop
 loop-less c = omega arith
 
 loop-again : tie.Need-loop-again Inv-loop μ-loop
-loop-again c = (omega arith, search needs, rw (c .raise .ensures) (sym (goes-on _ _ _ (omega arith) (c .before .before .before .before .before .before .before .before .before .before .before .before .before .before .before .before .before .before .loop .inv .0) _ _ _ (c .before .before .reply .given .1) (c .before .before .before .before .before .before .before .before .before .before .before .before .step .ensures)) ∙ c .before .before .before .before .before .before .before .before .before .before .before .before .before .before .before .before .before .before .loop .inv .2))
+loop-again c = (omega arith, search needs, rw (c .raise .ensures) (sym (goes-on _ _ _ (omega arith) (c .before .before .before .before .before .before .before .before .before .before .before .before .before .before .before .before .before .before .loop .inv .0) _ _ _ (c .before .before .reply .given .1) (c .before .before .before .before .before .before .before .before .before .before .before .before .carry-out .ensures)) ∙ c .before .before .before .before .before .before .before .before .before .before .before .before .before .before .before .before .before .before .loop .inv .2))
 
 same-length-5 : tie.Need-same-length-5 Inv-loop μ-loop
 same-length-5 c = search needs
@@ -76,7 +76,7 @@ run-spec =
     Inv-loop
     μ-loop
     loop-holds
-    step-requires
+    carry-out-requires
     sub-left
     enum-known-reply
     (λ c. search needs)
