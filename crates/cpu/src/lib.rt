@@ -17,7 +17,8 @@ pub enum End {
     Spent(Machine),
 }
 
-// The byte at the counter is carried out: a step, but for the high marks. It has one caller, the loop of `run`, and is inlined there.
+// The byte at the counter is carried out: a step, but for the high marks. It has one caller, the loop of `run`, and is inlined
+// there.
 pub fn carry_out(
     m: Machine,
     memory: &mut [u8],
@@ -40,7 +41,8 @@ fn greater(a: u8, b: u8) -> u8
     if a < b { b } else { a }
 }
 
-// The high marks after a step. Hardly any step raises one, so it asks first: that branch costs less than the greater of two numbers twice.
+// The high marks after a step. Hardly any step raises one, so it asks first: that branch costs less than the greater of two numbers
+// twice.
 fn raise(m: Machine) -> Machine
     ensures { λ r. ⌜ r ≡ raisedRecord m ⌝ }
 {

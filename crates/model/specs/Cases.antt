@@ -310,7 +310,7 @@ marksRaised =
     -- a call raises that of the return stack
     ∷ case (0x60 ∷ 0x00 ∷ 0x01 ∷ 0x00 ∷ 0x80 ∷ 0x07 ∷ 0x6C ∷ []) enough
     (workHigh 1 ∷ retHigh 2 ∷ retIs [] ∷ [])
-    -- in return mode the stacks change places, and each keeps its mark: LITr, LIT2r, DUP, LIT
+    -- in return mode the stacks change places, and each keeps its mark: LITr 05, LIT2r 0506, LIT 01
     ∷ case (0xC0 ∷ 0x05 ∷ 0xE0 ∷ 0x05 ∷ 0x06 ∷ 0x80 ∷ 0x01 ∷ 0x00 ∷ []) enough
     (workHigh 1 ∷ retHigh 3 ∷ [])
     -- a pointer that goes round: POP at 0 leaves it at 255
