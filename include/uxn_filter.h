@@ -30,8 +30,9 @@
    name: there the device of uxn_event was a uint8_t, so that C cut 259 down to 3, and there was no uxn_host. In version 2 a sheet
    had four bytes for each program byte; since version 3 it has eight, and uxn_widen_sheet and uxn_narrow_sheet move sheets from
    one form to the other. Since version 4 uxn_explain says why a program is refused. Since version 5 uxn_machine has two high marks:
-   it has 6 bytes where it had 4, and uxn_reply 16 where it had 12. */
-#define UXN_FILTER_VERSION 5
+   it has 6 bytes where it had 4, and uxn_reply 16 where it had 12. Since version 6 uxn_run and uxn_event take what is watched, with
+   the answer UXN_PAUSED, and uxn_reply has 20 bytes: uxn_step says which ports the instruction wrote. */
+#define UXN_FILTER_VERSION 6
 
 #ifdef __cplusplus
 extern "C" {
@@ -56,6 +57,11 @@ typedef struct {
 #define UXN_BROKE 3   /* the last instruction was BRK; the counter is just past it */
 #define UXN_SPENT 4   /* the budget is used up and the last instruction was not BRK */
 #define UXN_IGNORED 5 /* uxn_event: the device's vector is 0; nothing changed */
+#define UXN_PAUSED 6  /* uxn_run, uxn_event: the last instruction wrote the watched port and was not BRK; it goes before UXN_SPENT */
+
+/* `watch` of uxn_run and uxn_event: a port, 0 to 255, or nothing. Every number above 255 watches nothing; but C cuts one of more than
+   16 bits before the call sees it. */
+#define UXN_WATCH_NONE 256
 
 /* uxn_reply.number, where the answer is UXN_REFUSED, uxn_why.number and what uxn_admit answers: the smallest that applies to the call.
    uxn_written.number: the first that applies, in the order that the call names */
@@ -80,6 +86,8 @@ typedef struct {
     uint8_t number;      /* 0 unless refused */
     uint8_t answer;
     uint8_t verdict;     /* uxn_frame that broke: port 0xF2, where 0 drops the frame and any other number passes it; else 0 */
+    uint8_t sent;        /* uxn_step: how many ports the instruction wrote, 0, 1 (DEO) or 2 (DEO2); 0 for all other calls */
+    uint8_t ports[2];    /* which, in the order of writing; 0 where there is none. The bytes written stand in the device page */
 } uxn_reply;
 
 /* Memory becomes zero but for the program at 0x0100, device page and stacks zero, pointers and high marks 0, the counter 0x0100.
@@ -88,22 +96,26 @@ uxn_reply uxn_load(uxn_machine machine, uint8_t *memory, size_t memory_length, u
                    uint8_t *working, size_t working_length, uint8_t *ret, size_t ret_length, const uint8_t *program,
                    size_t program_length);
 
-/* One instruction. Refusals: 1 to 4. */
+/* One instruction; the reply says which ports it wrote. A port counts as written if the byte is the one that stood there. Refusals: 1 to
+   4. */
 uxn_reply uxn_step(uxn_machine machine, uint8_t *memory, size_t memory_length, uint8_t *device_page, size_t device_page_length,
                    uint8_t *working, size_t working_length, uint8_t *ret, size_t ret_length);
 
-/* Instructions until BRK, at most `budget` of them. Refusals: 1 to 4. */
+/* Instructions until BRK, at most `budget` of them, and until one has written the port `watch`. From a pause uxn_run with the budget
+   less the steps goes on as if there had been none. Refusals: 1 to 4. */
 uxn_reply uxn_run(uxn_machine machine, uint8_t *memory, size_t memory_length, uint8_t *device_page, size_t device_page_length,
-                  uint8_t *working, size_t working_length, uint8_t *ret, size_t ret_length, uint32_t budget);
+                  uint8_t *working, size_t working_length, uint8_t *ret, size_t ret_length, uint32_t budget, uint16_t watch);
 
 /* A run from the vector of a device, 0 to 15; stacks, pointers and high marks stay as they are. Any other number is refused, 259 and
-   -1 too; but C cuts one of more than 32 bits before the call sees it. Refusals: 1 to 4, 6. */
+   -1 too; but C cuts one of more than 32 bits before the call sees it. From a pause uxn_run goes on, not uxn_event. Refusals: 1 to 4,
+   6. */
 uxn_reply uxn_event(uxn_machine machine, uint8_t *memory, size_t memory_length, uint8_t *device_page, size_t device_page_length,
-                    uint8_t *working, size_t working_length, uint8_t *ret, size_t ret_length, uint32_t device, uint32_t budget);
+                    uint8_t *working, size_t working_length, uint8_t *ret, size_t ret_length, uint32_t device, uint32_t budget,
+                    uint16_t watch);
 
 /* A frame record of 64 bytes: length of the data (0 to 62), node number, the data, zeros to the end. Port 0xF2 becomes 0, the
-   record is written to 0x0080 .. 0x00BF, pointers and high marks become 0, and the program runs from 0x0100. Refusals: 1 to 4, 7,
-   8. */
+   record is written to 0x0080 .. 0x00BF, pointers and high marks become 0, and the program runs from 0x0100. It watches nothing.
+   Refusals: 1 to 4, 7, 8. */
 uxn_reply uxn_frame(uxn_machine machine, uint8_t *memory, size_t memory_length, uint8_t *device_page, size_t device_page_length,
                     uint8_t *working, size_t working_length, uint8_t *ret, size_t ret_length, const uint8_t *record,
                     size_t record_length, uint32_t budget);
@@ -218,14 +230,14 @@ static inline uxn_reply uxn_host_step(uxn_host *host)
     return uxn_host_keep(host, uxn_step(UXN_HOST_GIVES(host)));
 }
 
-static inline uxn_reply uxn_host_run(uxn_host *host, uint32_t budget)
+static inline uxn_reply uxn_host_run(uxn_host *host, uint32_t budget, uint16_t watch)
 {
-    return uxn_host_keep(host, uxn_run(UXN_HOST_GIVES(host), budget));
+    return uxn_host_keep(host, uxn_run(UXN_HOST_GIVES(host), budget, watch));
 }
 
-static inline uxn_reply uxn_host_event(uxn_host *host, uint32_t device, uint32_t budget)
+static inline uxn_reply uxn_host_event(uxn_host *host, uint32_t device, uint32_t budget, uint16_t watch)
 {
-    return uxn_host_keep(host, uxn_event(UXN_HOST_GIVES(host), device, budget));
+    return uxn_host_keep(host, uxn_event(UXN_HOST_GIVES(host), device, budget, watch));
 }
 
 static inline uxn_reply uxn_host_frame(uxn_host *host, const uint8_t *record, size_t record_length, uint32_t budget)

@@ -10,12 +10,13 @@ use creply::of_load;
 use creply::of_run;
 use creply::of_step;
 use creply::of_write;
+use creply::watch_of;
 use model::Machine;
 ghost use mathlib.Core.Path.{_≡_};
 ghost use Rattle.model.specs.Machine.{state};
 ghost use Rattle.model.specs.Calls.{loadCall, stepCall, runCall, eventCall, frameCall, admitCall};
 ghost use Rattle.model.specs.Moves.{widenCall, narrowCall};
-ghost use Rattle.creply.specs.Exported.{returned, exported, admitReturned, exportedAdmit, writeReturned, exportedWrite};
+ghost use Rattle.creply.specs.Exported.{watchOf, returned, exported, admitReturned, exportedAdmit, writeReturned, exportedWrite};
 ghost use Rattle.creply.specs.Why.{WhyOf};
 
 #[no_mangle]
@@ -55,11 +56,12 @@ pub extern "C" fn uxn_run(
     work: &mut [u8],
     ret: &mut [u8],
     budget: u32,
+    watch: u16,
 ) -> Reply
     ensures { λ r. ⌜ returned r (now (memory .exit)) (now (devices .exit)) (now (work .exit)) (now (ret .exit))
-        ≡ exported (runCall budget (state (now (memory .entry)) (now (devices .entry)) (now (work .entry)) (now (ret .entry)) machine)) ⌝ }
+        ≡ exported (runCall (watchOf watch) budget (state (now (memory .entry)) (now (devices .entry)) (now (work .entry)) (now (ret .entry)) machine)) ⌝ }
 {
-    of_run(machine::run(machine, memory, devices, work, ret, budget))
+    of_run(machine::run(machine, memory, devices, work, ret, budget, watch_of(watch)))
 }
 
 #[no_mangle]
@@ -71,11 +73,21 @@ pub extern "C" fn uxn_event(
     ret: &mut [u8],
     device: u32,
     budget: u32,
+    watch: u16,
 ) -> Reply
     ensures { λ r. ⌜ returned r (now (memory .exit)) (now (devices .exit)) (now (work .exit)) (now (ret .exit))
-        ≡ exported (eventCall device budget (state (now (memory .entry)) (now (devices .entry)) (now (work .entry)) (now (ret .entry)) machine)) ⌝ }
+        ≡ exported (eventCall (watchOf watch) device budget (state (now (memory .entry)) (now (devices .entry)) (now (work .entry)) (now (ret .entry)) machine)) ⌝ }
 {
-    of_event(machine::event(machine, memory, devices, work, ret, device, budget))
+    of_event(machine::event(
+        machine,
+        memory,
+        devices,
+        work,
+        ret,
+        device,
+        budget,
+        watch_of(watch),
+    ))
 }
 
 #[no_mangle]

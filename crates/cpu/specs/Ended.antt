@@ -5,7 +5,7 @@ use mathlib.Core.List.{[]}
 use Rattle.model.specs.Machine.{State, state, registers}
 use Rattle.model.specs.Step.{fetched, raised}
 use Rattle.model.specs.Run.{Reply, reply}
-use Rattle.model.specs.Run.Answer.{Broke, Spent}
+use Rattle.model.specs.Run.Answer.{Broke, Spent, Paused}
 use Rattle.model.specs.declared.Machine.{Machine}
 use Rattle.operations.specs.After.{executed}
 use Rattle.execute.specs.declared.Stepped.{Stepped}
@@ -23,14 +23,16 @@ raisedRecord m = registers (raised (state [] [] [] [] m))
 abbrev pub unspent : End → ℕ
 unspent (End.Broke m n) = n
 unspent (End.Spent m) = 0
+unspent (End.Paused m n) = n
 
 -- the reply of a run with this budget: the steps are the part of it that is spent. `stateOf` makes the state of the machine
 -- record and the four buffers
 abbrev pub ofEnd : ℕ → (Machine → State) → End → Reply
 ofEnd budget stateOf (End.Broke m n) = reply Broke (budget - n) 0 (stateOf m)
 ofEnd budget stateOf (End.Spent m) = reply Spent budget 0 (stateOf m)
+ofEnd budget stateOf (End.Paused m n) = reply Paused (budget - n) 0 (stateOf m)
 
 -- the end of a run whose last instruction answered this, with so much of the budget not spent
 abbrev pub endedBy : Stepped → ℕ → End
-endedBy (Stepped.WentOn m) n = End.Spent (raisedRecord m)
+endedBy (Stepped.WentOn m port sent) n = End.Spent (raisedRecord m)
 endedBy (Stepped.Broke m) n = End.Broke (raisedRecord m) n

@@ -6,16 +6,19 @@ use model::FrameReply;
 use model::LoadReply;
 use model::Machine;
 use model::Place;
+use model::Ports;
 use model::Reason;
 use model::RunReply;
 use model::StepReply;
+use model::Watch;
 use model::WriteReply;
 ghost use mathlib.Core.Path.{_≡_};
 ghost use mathlib.Core.List.{List};
 ghost use Prim.Native.Nat.{ℕ};
 ghost use Rattle.model.specs.Machine.{state};
+ghost use Rattle.model.specs.declared.StepReply.{StepReply};
 ghost use Rattle.model.specs.Replies.{ofLoad, ofStep, ofRun, ofEvent, ofFrame, ofAdmit, ofWrite};
-ghost use Rattle.creply.specs.Exported.{refusedStruct, doneStruct, wroteStruct, returned, exported, admitReturned, exportedAdmit, writeReturned, exportedWrite};
+ghost use Rattle.creply.specs.Exported.{watchOf, refusedStruct, doneStruct, wentOnStruct, wroteStruct, returned, exported, admitReturned, exportedAdmit, writeReturned, exportedWrite};
 ghost use Rattle.creply.specs.Why.{nowherePlace, plainStruct, becauseStruct, reasonStruct, whyStruct};
 
 // The answers, as numbers.
@@ -30,6 +33,11 @@ pub const BROKE: u8 = 3;
 pub const SPENT: u8 = 4;
 
 pub const IGNORED: u8 = 5;
+
+pub const PAUSED: u8 = 6;
+
+// The ports that may be watched are the numbers below this one.
+const PORTS: u16 = 256;
 
 // A refused admission that has a reason: no depths and routines obey the rules.
 const NO_ASSIGNMENT: u8 = 11;
@@ -59,8 +67,8 @@ const RETURN_OFF_FLOOR: u8 = 11;
 
 const RETURNS_DIFFER: u8 = 12;
 
-// What a call replies: the machine record afterwards, the steps taken, the number of the refusal or 0, the answer, and the
-// verdict or 0.
+// What a call replies: the machine record afterwards, the steps taken, the number of the refusal or 0, the answer, the verdict or 0, and
+// how many ports a step wrote, and which.
 #[repr(C)]
 pub struct Reply {
     pub machine: Machine,
@@ -68,6 +76,8 @@ pub struct Reply {
     pub number: u8,
     pub answer: u8,
     pub verdict: u8,
+    pub sent: u8,
+    pub ports: [u8; 2],
 }
 
 // What a call that writes to a lent output replies: how many bytes it wrote, a line, which is 0 here, and the number of the
@@ -100,6 +110,8 @@ fn refused(number: u8, machine: Machine) -> Reply
         number,
         answer: REFUSED,
         verdict: 0,
+        sent: 0,
+        ports: [0, 0],
     }
 }
 
@@ -112,6 +124,33 @@ fn done(answer: u8, machine: Machine, steps: u32, verdict: u8) -> Reply
         number: 0,
         answer,
         verdict,
+        sent: 0,
+        ports: [0, 0],
+    }
+}
+
+// A step that wrote so many ports.
+fn went_on(machine: Machine, sent: u8, first: u8, second: u8) -> Reply
+    ensures { λ r. ⌜ r ≡ wentOnStruct machine sent first second ⌝ }
+{
+    Reply {
+        machine,
+        steps: 1,
+        number: 0,
+        answer: WENT_ON,
+        verdict: 0,
+        sent,
+        ports: [first, second],
+    }
+}
+
+fn of_went_on(machine: Machine, ports: Ports) -> Reply
+    ensures { λ r. ⌜ ((p q w t : List ℕ) → returned r p q w t ≡ exported (ofStep (state p q w t) (StepReply.WentOn machine ports))) ⌝ }
+{
+    match ports {
+        Ports::None => went_on(machine, 0, 0, 0),
+        Ports::One(p) => went_on(machine, 1, p, 0),
+        Ports::Two(p, q) => went_on(machine, 2, p, q),
     }
 }
 
@@ -139,7 +178,7 @@ pub fn of_step(reply: StepReply) -> Reply
 {
     match reply {
         StepReply::Refused(n, m) => refused(n, m),
-        StepReply::WentOn(m) => done(WENT_ON, m, 1, 0),
+        StepReply::WentOn(m, ports) => of_went_on(m, ports),
         StepReply::Broke(m) => done(BROKE, m, 1, 0),
     }
 }
@@ -151,6 +190,7 @@ pub fn of_run(reply: RunReply) -> Reply
         RunReply::Refused(n, m) => refused(n, m),
         RunReply::Broke(m, steps) => done(BROKE, m, steps, 0),
         RunReply::Spent(m, steps) => done(SPENT, m, steps, 0),
+        RunReply::Paused(m, steps) => done(PAUSED, m, steps, 0),
     }
 }
 
@@ -162,6 +202,7 @@ pub fn of_event(reply: EventReply) -> Reply
         EventReply::Ignored(m) => done(IGNORED, m, 0, 0),
         EventReply::Broke(m, steps) => done(BROKE, m, steps, 0),
         EventReply::Spent(m, steps) => done(SPENT, m, steps, 0),
+        EventReply::Paused(m, steps) => done(PAUSED, m, steps, 0),
     }
 }
 
@@ -172,6 +213,17 @@ pub fn of_frame(reply: FrameReply) -> Reply
         FrameReply::Refused(n, m) => refused(n, m),
         FrameReply::Broke(m, steps, verdict) => done(BROKE, m, steps, verdict),
         FrameReply::Spent(m, steps) => done(SPENT, m, steps, 0),
+    }
+}
+
+// What a call watches, from its number in C: a port, or nothing.
+pub fn watch_of(watch: u16) -> Watch
+    ensures { λ r. ⌜ r ≡ watchOf watch ⌝ }
+{
+    if watch < PORTS {
+        Watch::Port(watch as u8)
+    } else {
+        Watch::Nothing
     }
 }
 

@@ -24,6 +24,7 @@ use transfers::ldr;
 use transfers::ldz;
 use transfers::lit;
 use transfers::offset;
+use transfers::port_of;
 use transfers::sta;
 use transfers::sth;
 use transfers::str;
@@ -34,9 +35,10 @@ ghost use Rattle.model.specs.Machine.{state, Sized};
 ghost use Rattle.operations.specs.After.{executed, byteOf};
 ghost use Rattle.execute.specs.Stepped.{ofStepped};
 
-// What a step answers: it went on, or it was BRK. On buffers of the right lengths none is refused.
+// What a step answers: it went on, or it was BRK. On buffers of the right lengths none is refused. One that went on has the first port that
+// it wrote, and how many, 0 to 2: BRK writes none.
 pub enum Stepped {
-    WentOn(Machine),
+    WentOn(Machine, u16, u8),
     Broke(Machine),
 }
 
@@ -61,6 +63,8 @@ pub fn execute(
     let mut rp = m.rp;
     let wp_high = m.wp_high;
     let rp_high = m.rp_high;
+    let mut port: u16 = 0;
+    let mut sent: u8 = 0;
     match key {
         0x00 => {
             if keep {
@@ -123,6 +127,8 @@ pub fn execute(
         0x16 => wp = dei(devices, work, wp, false, keep),
         0x17 => {
             deo(devices, work, wp, false);
+            port = port_of(work, wp, false);
+            sent = 1;
             wp = lower(wp, keep, 2);
         }
         0x18 => wp = compute(work, wp, false, keep, 0),
@@ -189,6 +195,8 @@ pub fn execute(
         0x36 => wp = dei(devices, work, wp, true, keep),
         0x37 => {
             deo(devices, work, wp, true);
+            port = port_of(work, wp, true);
+            sent = 2;
             wp = lower(wp, keep, 3);
         }
         0x38 => wp = compute(work, wp, true, keep, 0),
@@ -254,6 +262,8 @@ pub fn execute(
         0x56 => rp = dei(devices, ret, rp, false, keep),
         0x57 => {
             deo(devices, ret, rp, false);
+            port = port_of(ret, rp, false);
+            sent = 1;
             rp = lower(rp, keep, 2);
         }
         0x58 => rp = compute(ret, rp, false, keep, 0),
@@ -320,6 +330,8 @@ pub fn execute(
         0x76 => rp = dei(devices, ret, rp, true, keep),
         0x77 => {
             deo(devices, ret, rp, true);
+            port = port_of(ret, rp, true);
+            sent = 2;
             rp = lower(rp, keep, 3);
         }
         0x78 => rp = compute(ret, rp, true, keep, 0),
@@ -331,11 +343,15 @@ pub fn execute(
         0x7e => rp = compute(ret, rp, true, keep, 6),
         _ => rp = sft(ret, rp, true, keep),
     }
-    Stepped::WentOn(Machine {
-        pc,
-        wp,
-        rp,
-        wp_high,
-        rp_high,
-    })
+    Stepped::WentOn(
+        Machine {
+            pc,
+            wp,
+            rp,
+            wp_high,
+            rp_high,
+        },
+        port,
+        sent,
+    )
 }

@@ -10,13 +10,16 @@ use lib.ListN.{length, getD, set, take, drop}
 use Rattle.model.specs.Bytes.{zeros, number, readRing}
 use Rattle.model.specs.Machine.{pageSize, start, State, state, Sized}
 use Rattle.model.specs.Instruction.{size}
-use Rattle.model.specs.Step.{step, breaks}
-use Rattle.model.specs.Run.{Reply, reply, stepReply, run}
+use Rattle.model.specs.Step.{step, breaks, stepPorts}
+use Rattle.model.specs.Run.{Reply, reply, withPorts, stepReply, run}
 use Rattle.model.specs.Run.Answer.{Refused, Loaded, WentOn, Broke, Spent, Ignored}
 use Rattle.model.specs.Calls.{refusal, bufferRows, unless, from, load, vector, framePlace, verdictPort, framed, withVerdict}
-use Rattle.model.specs.Replies.{ofStep, ofRun, ofEvent, ofFrame}
+use Rattle.model.specs.Replies.{portsIn, ofStep, ofRun, ofEvent, ofFrame}
 use Rattle.model.specs.declared.Machine.{Machine}
-use Rattle.model.proofs.Runs.{run-broke, run-on}
+use Rattle.model.specs.declared.Ports.{Ports}
+use Rattle.model.specs.declared.Watch.{Watch}
+use Rattle.model.proofs.Runs.{run-broke, run-on, run-through}
+use Rattle.model.proofs.Pauses.{brk-writes}
 use Rattle.model.proofs.Numbers.{buffers-right}
 use Rattle.cpu.proofs.Runs.{answers}
 use Rattle.cpu.specs.Ended.{ofEnd}
@@ -54,34 +57,44 @@ module _ (stateOf : Machine → State) (budget : ℕ) where
   pub run-is : (e : End) → ofRun stateOf (runOf budget e) ≡ ofEnd budget stateOf e
   run-is (End.Broke m n) = refl
   run-is (End.Spent m) = refl
+  run-is (End.Paused m n) = refl
 
   pub event-is : (e : End) → ofEvent stateOf (eventOf budget e) ≡ ofEnd budget stateOf e
   event-is (End.Broke m n) = refl
   event-is (End.Spent m) = refl
+  event-is (End.Paused m n) = refl
 
-  pub frame-is : (verdict : ℕ) (e : End) → ((m : Machine) → verdict ≡ getD (stateOf m .devices) verdictPort 0)
-      → ofFrame stateOf (frameOf budget e verdict) ≡ withVerdict (ofEnd budget stateOf e)
-  frame-is verdict (End.Broke m n) h = rw (h m)
-  frame-is verdict (End.Spent m) h = refl
+  -- C-18: a run that watches nothing is not paused
+  not-paused : {A : Type 0} (s : State) (m : Machine) (n : ℕ) → ofEnd budget stateOf (End.Paused m n) ≡ run Watch.Nothing budget s → A
+  not-paused s m n h = absurd (run-through budget s (sym (answers h)))
 
--- a run with budget 1
-one-step : (s : State) → run 1 s ≡ reply (cond (breaks s) Broke Spent) 1 0 (step s)
+  pub frame-is : (verdict : ℕ) (s : State) (e : End) → ((m : Machine) → verdict ≡ getD (stateOf m .devices) verdictPort 0)
+      → ofEnd budget stateOf e ≡ run Watch.Nothing budget s → ofFrame stateOf (frameOf budget e verdict) ≡ withVerdict (run Watch.Nothing budget s)
+  frame-is verdict s (End.Broke m n) h g = rw (← g, h m)
+  frame-is verdict s (End.Spent m) h g = rw (← g)
+  frame-is verdict s (End.Paused m n) h g = not-paused s m n g
+
+-- a run with budget 1 that watches nothing
+one-step : (s : State) → run Watch.Nothing 1 s ≡ reply (cond (breaks s) Broke Spent) 1 0 (step s)
 unfolding run
 one-step s = by (breaks s) refl
   where
-    by : (b : Bool) → breaks s ≡ b → run 1 s ≡ reply (cond b Broke Spent) 1 0 (step s)
-    by true e = run-broke 0 s e
-    by false e = run-on 0 s e
+    by : (b : Bool) → breaks s ≡ b → run Watch.Nothing 1 s ≡ reply (cond b Broke Spent) 1 0 (step s)
+    by true e = run-broke Watch.Nothing 0 s e
+    by false e = run-on Watch.Nothing 0 s e refl
 
-stepped : (stateOf : Machine → State) (b : Bool) (t : State) (e : End) → ofEnd 1 stateOf e ≡ reply (cond b Broke Spent) 1 0 t
-    → ofStep stateOf (stepOf e) ≡ reply (cond b Broke WentOn) 1 0 t
-stepped stateOf true t (End.Broke m n) h = ap (λ (r : Reply). reply Broke 1 0 (r .state)) h
-stepped stateOf true t (End.Spent m) h = let a = answers h in let z : _≡_ {A = ℕ} 0 1 = cc in absurd (omega arith)
-stepped stateOf false t (End.Broke m n) h = let a = answers h in let z : _≡_ {A = ℕ} 0 1 = cc in absurd (omega arith)
-stepped stateOf false t (End.Spent m) h = ap (λ (r : Reply). reply WentOn 1 0 (r .state)) h
+stepped : (stateOf : Machine → State) (ports : Ports) (b : Bool) (s t : State) (e : End) → (b ≡ true → stepPorts s ≡ []) → portsIn ports ≡ stepPorts s
+    → ofEnd 1 stateOf e ≡ reply (cond b Broke Spent) 1 0 t → ofStep stateOf (stepOf ports e) ≡ withPorts (stepPorts s) (reply (cond b Broke WentOn) 1 0 t)
+stepped stateOf ports true s t (End.Broke m n) brk p h = rw (brk refl) (ap (λ (r : Reply). reply Broke 1 0 (r .state)) h)
+stepped stateOf ports false s t (End.Spent m) brk p h = rw p (ap (λ (r : Reply). withPorts (stepPorts s) (reply WentOn 1 0 (r .state))) h)
+stepped stateOf ports true s t (End.Spent m) brk p h = let a = answers h in let z : _≡_ {A = ℕ} 0 1 = cc in absurd (omega arith)
+stepped stateOf ports false s t (End.Broke m n) brk p h = let a = answers h in let z : _≡_ {A = ℕ} 0 1 = cc in absurd (omega arith)
+stepped stateOf ports true s t (End.Paused m n) brk p h = let a = answers h in let z : _≡_ {A = ℕ} 0 1 = cc in absurd (omega arith)
+stepped stateOf ports false s t (End.Paused m n) brk p h = let a = answers h in let z : _≡_ {A = ℕ} 0 1 = cc in absurd (omega arith)
 
-pub step-is : (stateOf : Machine → State) (s : State) (e : End) → ofEnd 1 stateOf e ≡ run 1 s → ofStep stateOf (stepOf e) ≡ stepReply s
-step-is stateOf s e h = stepped stateOf (breaks s) (step s) e (h ∙ one-step s)
+pub step-is : (stateOf : Machine → State) (ports : Ports) (s : State) (e : End) → portsIn ports ≡ stepPorts s → ofEnd 1 stateOf e ≡ run Watch.Nothing 1 s
+    → ofStep stateOf (stepOf ports e) ≡ stepReply s
+step-is stateOf ports s e p h = stepped stateOf ports (breaks s) s (step s) e (brk-writes s) p (h ∙ one-step s)
 
 -- ---- load
 
@@ -97,13 +110,13 @@ pub vector-is : (device : ℕ) (s : State) {p v : ℕ} → p ≡ 16 * device →
 unfolding vector size
 vector-is device s e h = rw e at h
 
-pub ignored : (device budget : ℕ) (s : State) {v : ℕ} → v ≡ vector device s → v ≡ 0
-    → reply Ignored 0 0 s ≡ cond (eqb (vector device s) 0) (reply Ignored 0 0 s) (run budget (from (vector device s) s))
-ignored device budget s e z = rw (← e, z)
+pub ignored : (watch : Watch) (device budget : ℕ) (s : State) {v : ℕ} → v ≡ vector device s → v ≡ 0
+    → reply Ignored 0 0 s ≡ cond (eqb (vector device s) 0) (reply Ignored 0 0 s) (run watch budget (from (vector device s) s))
+ignored watch device budget s e z = rw (← e, z)
 
-pub runs-from : (device budget : ℕ) (s : State) {v : ℕ} {r : Reply} → v ≡ vector device s → (v ≡ 0 → ⊥) → r ≡ run budget (from v s)
-    → r ≡ cond (eqb (vector device s) 0) (reply Ignored 0 0 s) (run budget (from (vector device s) s))
-runs-from device budget s e z h = rw (← e, ne-eqb _ _ z) h
+pub runs-from : (watch : Watch) (device budget : ℕ) (s : State) {v : ℕ} {r : Reply} → v ≡ vector device s → (v ≡ 0 → ⊥) → r ≡ run watch budget (from v s)
+    → r ≡ cond (eqb (vector device s) 0) (reply Ignored 0 0 s) (run watch budget (from (vector device s) s))
+runs-from watch device budget s e z h = rw (← e, ne-eqb _ _ z) h
 
 -- ---- frame
 

@@ -5,12 +5,14 @@ use buffers::clear_verdict;
 use buffers::frame_memory;
 use buffers::load_memory;
 use buffers::verdict;
+use cpu::ports;
 use model::EventReply;
 use model::FrameReply;
 use model::LoadReply;
 use model::Machine;
 use model::RunReply;
 use model::StepReply;
+use model::Watch;
 use refusals::event_refusal;
 use refusals::frame_refusal;
 use refusals::load_refusal;
@@ -61,7 +63,8 @@ pub fn load(
     })
 }
 
-// One instruction, as a run with budget 1: the loop of `cpu::run` stays the one place where an instruction is carried out.
+// One instruction, as a run with budget 1: the loop of `cpu::run` stays the one place where an instruction is carried out. Which ports it
+// writes (C-18) is read before it.
 pub fn step(
     m: Machine,
     memory: &mut [u8],
@@ -76,10 +79,14 @@ pub fn step(
     if number != 0 {
         return StepReply::Refused(number, m);
     }
-    step_of(cpu::run(m, memory, devices, work, ret, 1))
+    let wrote = ports(m, memory, work, ret);
+    step_of(
+        cpu::run(m, memory, devices, work, ret, 1, Watch::Nothing),
+        wrote,
+    )
 }
 
-// "Each instruction costs one, BRK too. Broke if the last was BRK, else Spent."
+// "Each instruction costs one, BRK too. Broke if the last was BRK, else Spent."; C-18: Paused after a step that wrote the watched port
 pub fn run(
     m: Machine,
     memory: &mut [u8],
@@ -87,15 +94,19 @@ pub fn run(
     work: &mut [u8],
     ret: &mut [u8],
     budget: u32,
+    watch: Watch,
 ) -> RunReply
     ensures { λ r. ⌜ ofRun (state (now (memory .exit)) (now (devices .exit)) (now (work .exit)) (now (ret .exit))) r
-        ≡ runCall budget (state (now (memory .entry)) (now (devices .entry)) (now (work .entry)) (now (ret .entry)) m) ⌝ }
+        ≡ runCall watch budget (state (now (memory .entry)) (now (devices .entry)) (now (work .entry)) (now (ret .entry)) m) ⌝ }
 {
     let number = wrong_length(memory, devices, work, ret);
     if number != 0 {
         return RunReply::Refused(number, m);
     }
-    run_of(cpu::run(m, memory, devices, work, ret, budget), budget)
+    run_of(
+        cpu::run(m, memory, devices, work, ret, budget, watch),
+        budget,
+    )
 }
 
 // "Zero: Ignored, 0 steps, nothing changed. Else run from it; stacks and pointers are retained.", C-20: and the
@@ -108,9 +119,10 @@ pub fn event(
     ret: &mut [u8],
     device: u32,
     budget: u32,
+    watch: Watch,
 ) -> EventReply
     ensures { λ r. ⌜ ofEvent (state (now (memory .exit)) (now (devices .exit)) (now (work .exit)) (now (ret .exit))) r
-        ≡ eventCall device budget (state (now (memory .entry)) (now (devices .entry)) (now (work .entry)) (now (ret .entry)) m) ⌝ }
+        ≡ eventCall watch device budget (state (now (memory .entry)) (now (devices .entry)) (now (work .entry)) (now (ret .entry)) m) ⌝ }
 {
     let number = event_refusal(memory, devices, work, ret, device);
     if number != 0 {
@@ -133,12 +145,13 @@ pub fn event(
         work,
         ret,
         budget,
+        watch,
     );
     event_of(end, budget)
 }
 
 // "Port F2 is set to 0, the record is written to memory 0080 to 00BF, both pointers become 0, and the program runs from 0100
-// with the budget given."; C-20: the high marks become 0
+// with the budget given."; C-20: the high marks become 0; C-18: it watches nothing
 pub fn frame(
     m: Machine,
     memory: &mut [u8],
@@ -170,6 +183,7 @@ pub fn frame(
         work,
         ret,
         budget,
+        Watch::Nothing,
     );
     frame_of(end, budget, verdict(devices))
 }

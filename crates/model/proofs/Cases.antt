@@ -10,9 +10,10 @@ use Rattle.model.specs.Machine.{memorySize, pageSize, stackSize, Sized}
 use Rattle.model.specs.Step.{popWraps, pushWraps, stackWraps}
 use Rattle.model.specs.Run.{run}
 use Rattle.model.specs.Run.Answer.{Admitted}
+use Rattle.model.specs.declared.Watch.{Watch}
 use Rattle.model.specs.Calls.{hasLength, unless, loadMost, load, loadCall, admitCall}
 use Rattle.model.specs.Demand3.{greatestOf}
-use Rattle.model.specs.Cases.{Case, claimed, allClaimed, used, loadAndRun, allHold, starred, mistakes, sentences, example, exampleSheet, callExample, callSheet, subroutines, marksRaised, depthsFine, depthsNot, callDepthsFine, callDepthsNot, depthsAre, rotateTests, callTests, numbered, agree, greatestDepths, summing, framesSeen, vectored, eventsSeen, wrapping, notWrapping, wrapsAre, moveCases, allCome}
+use Rattle.model.specs.Cases.{Case, claimed, allClaimed, used, loadAndRun, allHold, starred, mistakes, sentences, example, exampleSheet, callExample, callSheet, subroutines, marksRaised, portsWritten, depthsFine, depthsNot, callDepthsFine, callDepthsNot, depthsAre, rotateTests, callTests, numbered, agree, greatestDepths, summing, framesSeen, vectored, eventsSeen, wrapping, notWrapping, wrapsAre, moveCases, allCome}
 use Rattle.model.proofs.Tests.{and-left, and-right, and-both, not-true}
 use Rattle.model.proofs.Numbers.{load-right, load-passed, load-sized, run-passed}
 use Rattle.model.proofs.Computing.{stepping, admitting, calling, moving}
@@ -33,23 +34,23 @@ used-sized =
       ret = length-replicate {A = ℕ} stackSize 0xAA;
     }
 
-only-run : (program : List ℕ) (budget : ℕ) → T (fits program) → loadAndRun program budget ≡ run budget (load program)
+only-run : (program : List ℕ) (watch : Watch) (budget : ℕ) → T (fits program) → loadAndRun program watch budget ≡ run watch budget (load program)
 unfolding loadAndRun loadCall unless
-only-run program budget t =
+only-run program watch budget t =
     let e = load-passed program used used-sized (not-true _ t) in
-    rw (e, unless) (run-passed budget (load program) (load-sized program (load-right program used e .1)))
+    rw (e, unless) (run-passed watch budget (load program) (load-sized program (load-right program used e .1)))
 
 abbrev computed : List Case → Bool
 computed [] = true
-computed (c ∷ cs) = fits (c .program) && (allClaimed (c .program) (run (c .budget) (load (c .program))) (c .claims) && computed cs)
+computed (c ∷ cs) = fits (c .program) && (allClaimed (c .program) (run (c .watch) (c .budget) (load (c .program))) (c .claims) && computed cs)
 
 all-hold : (cs : List Case) → T (computed cs) → T (allHold cs)
 unfolding allHold
 all-hold [] t = tt
 all-hold (c ∷ cs) t =
-    let claims = allClaimed (c .program) (run (c .budget) (load (c .program))) (c .claims) in
+    let claims = allClaimed (c .program) (run (c .watch) (c .budget) (load (c .program))) (c .claims) in
     let u = and-right (fits (c .program)) (claims && computed cs) t in
-    rw (only-run (c .program) (c .budget) (and-left (fits (c .program)) _ t))
+    rw (only-run (c .program) (c .watch) (c .budget) (and-left (fits (c .program)) _ t))
     (and-both claims (allHold cs) (and-left claims (computed cs) u) (all-hold cs (and-right claims (computed cs) u)))
 
 -- ---- the cases
@@ -82,6 +83,10 @@ subroutines-hold = all-hold subroutines tt
 pub marks-hold : T (allHold marksRaised)
 unfolding marksRaised allClaimed claimed calling
 marks-hold = all-hold marksRaised tt
+
+pub ports-hold : T (allHold portsWritten)
+unfolding portsWritten allClaimed claimed calling
+ports-hold = all-hold portsWritten tt
 
 pub depths-hold : T (depthsAre rotateTests true depthsFine) × T (depthsAre rotateTests false depthsNot)
 unfolding depthsAre depthsFine depthsNot admitting

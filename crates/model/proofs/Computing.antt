@@ -1,8 +1,8 @@
 -- Names for groups of definitions: a proof that computes says `unfolding stepping`, `admitting`, `calling` or `moving`. Assumes nothing.
-use Rattle.model.specs.Bytes.{word, number, readRing, writeRing}
+use Rattle.model.specs.Bytes.{word, number, readRing, placesRing, writeRing}
 use Rattle.model.specs.Machine.{pushed, popped, top, lowered, numbers, operands}
 use Rattle.model.specs.Instruction.{opOf, wide, size, returnMode, keepMode, shape, shapeOf, rowOf}
-use Rattle.model.specs.Step.{compared, computed, shifted, relative, address, effect, effectOn, words, mainAfter, otherAfter, written, applied, operated, execute, step}
+use Rattle.model.specs.Step.{compared, computed, shifted, relative, address, effect, effectOn, words, mainAfter, otherAfter, written, applied, operated, execute, sentBy, portsOf, step}
 use Rattle.model.specs.Run.{run}
 use Rattle.model.specs.Admission.{byteAt, allowed, afterOf, targetOf, successors, markAt, found, isCall, isReturn, ruleTests, routineTests, returned, fits, fitsFrom, assigns, markOne, markEach, follow, sweep, sweeps, reached, admitted, sheetOf}
 use Rattle.model.specs.Calls.{refusal, bufferRows, unless, loadRows, load, loadCall, stepCall, runCall, eventRows, vector, eventCall, wellFormed, frameRows, framed, frameCall, admitRows, admitBy, admitCall}
@@ -16,7 +16,7 @@ decoding = tt
 
 -- a step
 unfoldable pub stepping : Unit {0}
-unfolding step execute operated applied written otherAfter mainAfter words effectOn effect address relative shifted computed compared operands numbers lowered top popped pushed word number readRing writeRing decoding
+unfolding step execute sentBy portsOf placesRing operated applied written otherAfter mainAfter words effectOn effect address relative shifted computed compared operands numbers lowered top popped pushed word number readRing writeRing decoding
 stepping = tt
 
 -- an admission

@@ -1,6 +1,6 @@
 -- Demand 3. Assumes nothing.
 use mathlib.Core.Path.{_≡_, refl, sym, ap, _∙_}
-use mathlib.Core.Bool.{true}
+use mathlib.Core.Bool.{true, true≢false}
 use mathlib.Core.List.{List, [], _∷_}
 use Prim.Native.Nat.{ℕ, zero, suc, _+_, _-_, _/_, _≤_, _<_}
 use native.Mathlib.Nat.{le-trans}
@@ -12,6 +12,7 @@ use Rattle.model.specs.Machine.{start, State}
 use Rattle.model.specs.Step.{execute, step, fetched, breaks}
 use Rattle.model.specs.Run.{run, trace}
 use Rattle.model.specs.Run.Answer.{Loaded}
+use Rattle.model.specs.declared.Watch.{Watch}
 use Rattle.model.specs.Admission.{admitMost, byteAt, Within, sheetRecord, recordByte, recordOf, markIn, Smallest}
 use Rattle.model.specs.Admission.Mark.{marked}
 use Rattle.model.specs.Calls.{frameSize, framed, frameTrace, load, loadCall, admitCall}
@@ -108,12 +109,13 @@ module _ (filter sheet : List ℕ) (written : Smallest filter sheet) (most : len
   Kept opened t after = Every (Sound filter sheet) t × EachLands opened t × Intact filter after × HighInSheet sheet after
 
   -- a run from a marked address
-  run-sound : (k : ℕ) (s : State) (opened : List ℕ) → Here opened s → HighInSheet sheet s → Kept opened (trace k s) (run k s .state)
+  run-sound : (k : ℕ) (s : State) (opened : List ℕ) → Here opened s → HighInSheet sheet s → Kept opened (trace Watch.Nothing k s) (run Watch.Nothing k s .state)
   run-sound =
-      run-induction (λ k s r t. (opened : List ℕ) → Here opened s → HighInSheet sheet s → Kept opened t (r .state))
+      run-induction Watch.Nothing (λ k s r t. (opened : List ℕ) → Here opened s → HighInSheet sheet s → Kept opened t (r .state))
       (λ s opened at b. (tt, tt, at .intact, b))
       (λ k s e opened at b. ((sound opened s at, tt), (landed opened s at, tt), stepped opened s at, raises s b (broke opened s at e)))
-      (λ k s r t e ih opened at b.
+      (λ k s e f. absurd (true≢false (sym f)))
+      (λ k s r t e f ih opened at b.
       let on = goes-on filter (markIn sheet) (written .assigned) most bytes opened s at e in
       let u = ih (openAfter s opened) on (raises s b (low (openAfter s opened) (step s) on)) in
       ((sound opened s at, u .0), (landed opened s at, u .1), u .2, u .3))

@@ -11,6 +11,7 @@ pub mod Lists
 pub mod Marked
 pub mod Moves
 pub mod Numbers
+pub mod Pauses
 pub mod Reached
 pub mod Reasons
 pub mod Refusals

@@ -8,7 +8,8 @@ use lib.ListN.{length, getD, set, take, drop}
 use Rattle.model.specs.Bytes.{number, readRing, zeros}
 use Rattle.model.specs.Machine.{memorySize, pageSize, stackSize, start, stack, highMarks, State}
 use Rattle.model.specs.Run.{Answer, Reply, reply, stepReply, run, trace}
-use Rattle.model.specs.Run.Answer.{Refused, Loaded, WentOn, Broke, Spent, Ignored, Admitted}
+use Rattle.model.specs.Run.Answer.{Refused, Loaded, WentOn, Broke, Spent, Paused, Ignored, Admitted}
+use Rattle.model.specs.declared.Watch.{Watch}
 use Rattle.model.specs.Admission.{admitMost, admitted, reached, sheetRecord, sheetOf}
 
 -- ---- numbered replies
@@ -41,6 +42,7 @@ numberOf Loaded = 0
 numberOf WentOn = 0
 numberOf Broke = 0
 numberOf Spent = 0
+numberOf Paused = 0
 numberOf Ignored = 0
 numberOf Admitted = 0
 
@@ -85,8 +87,9 @@ loadCall program s = unless (refusal (loadRows program s)) s (reply Loaded 0 0 (
 unfoldable pub stepCall : State → Reply
 stepCall s = unless (refusal (bufferRows s)) s (stepReply s)
 
-unfoldable pub runCall : ℕ → State → Reply
-runCall budget s = unless (refusal (bufferRows s)) s (run budget s)
+-- C-18: "Runs and events .. take one watched port or none"
+unfoldable pub runCall : Watch → ℕ → State → Reply
+runCall watch budget s = unless (refusal (bufferRows s)) s (run watch budget s)
 
 -- ---- event
 
@@ -100,10 +103,10 @@ vector device s = number (readRing pageSize (s .devices) (16 * device) 2)
 
 -- "Zero: Ignored, 0 steps, nothing changed. Else run from it; stacks and pointers are retained.", C-20: and the
 -- high marks, for it is no frame start
-unfoldable pub eventCall : ℕ → ℕ → State → Reply
-eventCall device budget s =
+unfoldable pub eventCall : Watch → ℕ → ℕ → State → Reply
+eventCall watch device budget s =
     unless (refusal (eventRows device s)) s
-    (cond (eqb (vector device s) 0) (reply Ignored 0 0 s) (run budget (from (vector device s) s)))
+    (cond (eqb (vector device s) 0) (reply Ignored 0 0 s) (run watch budget (from (vector device s) s)))
 
 -- ---- frame
 
@@ -154,18 +157,20 @@ verdictOf (Refused n) s = 0
 verdictOf Loaded s = 0
 verdictOf WentOn s = 0
 verdictOf Spent s = 0
+verdictOf Paused s = 0
 verdictOf Ignored s = 0
 verdictOf Admitted s = 0
 
 abbrev pub withVerdict : Reply → Reply
 withVerdict r = reply (r .answer) (r .steps) (verdictOf (r .answer) (r .state)) (r .state)
 
+-- C-18: "Frame calls watch nothing and answer as before."
 unfoldable pub frameCall : List ℕ → ℕ → State → Reply
-frameCall frame budget s = unless (refusal (frameRows frame s)) s (withVerdict (run budget (framed frame s)))
+frameCall frame budget s = unless (refusal (frameRows frame s)) s (withVerdict (run Watch.Nothing budget (framed frame s)))
 
 -- the states before each step of that call: none if it is refused
 unfoldable pub frameTrace : List ℕ → ℕ → State → List State
-frameTrace frame budget s = elim (refusal (frameRows frame s)) [ zero ↦ trace budget (framed frame s) | suc n ↦ [] ]
+frameTrace frame budget s = elim (refusal (frameRows frame s)) [ zero ↦ trace Watch.Nothing budget (framed frame s) | suc n ↦ [] ]
 
 -- "0 drops the frame, any other number passes it"
 abbrev pub passed : ℕ → Bool

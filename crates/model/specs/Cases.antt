@@ -1,5 +1,5 @@
 -- Document 01, "Bench sheet": the cases marked *, as programs and what is claimed of them, and the sheet of its example;
--- with the mistakes that it names, further sentences, document 02's C-19, the numbered replies, frame and event calls, steps that
+-- with the mistakes that it names, further sentences, document 02's C-18, C-19 and C-20, the numbered replies, frame and event calls, steps that
 -- wrap a stack, and moves of sheets.
 -- Assumes nothing.
 use mathlib.Core.Bool.{Bool, true, false, Bool·beq, _&&_}
@@ -12,24 +12,27 @@ use Rattle.model.specs.Machine.{memorySize, pageSize, stackSize, start, 
 use Rattle.model.specs.Instruction.{working, returning}
 use Rattle.model.specs.Step.{stackWraps}
 use Rattle.model.specs.Admission.{all, ruleTests, sheetRecord}
-use Rattle.model.specs.Run.{Answer, Reply}
-use Rattle.model.specs.Run.Answer.{Refused, Loaded, WentOn, Broke, Spent, Ignored, Admitted}
+use Rattle.model.specs.Run.{Answer, Reply, stepReply}
+use Rattle.model.specs.Run.Answer.{Refused, Loaded, WentOn, Broke, Spent, Paused, Ignored, Admitted}
+use Rattle.model.specs.declared.Watch.{Watch}
 use Rattle.model.specs.Writes.{WriteResult, written, unwritten}
 use Rattle.model.specs.Moves.{widenCall, narrowCall}
 use Rattle.model.specs.Calls.{numberOf, frameSize, loadCall, stepCall, runCall, eventCall, frameCall, admitCall}
 use Rattle.model.specs.Demand3.{greatestDepth}
 
 -- what may be claimed: the answer of the run, its steps, the counter, a stack's pointer and the high marks afterwards, all the bytes
--- of a stack, byte i of the working stack's buffer, and the answer of admission
+-- of a stack, byte i of the working stack's buffer, the ports that a further step answers, and the answer of admission
 pub data Claim : Type 0 where
   answers : Answer → Claim
   steps counter workPointer workHigh retHigh : ℕ → Claim
   workIs retIs : List ℕ → Claim
   workByte : ℕ → ℕ → Claim
+  nextPorts : List ℕ → Claim
   admission : Answer → Claim
 
 pub record Case : Type 0 where
   pub program : List ℕ
+  pub watch : Watch
   pub budget : ℕ
   pub claims : List Claim
 
@@ -49,7 +52,8 @@ answerCode Broke = 2
 answerCode Spent = 3
 answerCode Ignored = 4
 answerCode Admitted = 5
-answerCode (Refused n) = 6 + n
+answerCode Paused = 6
+answerCode (Refused n) = 7 + n
 
 abbrev pub sameAnswer : Answer → Answer → Bool
 sameAnswer a b = eqb (answerCode a) (answerCode b)
@@ -68,6 +72,7 @@ claimed program r (retHigh n) = eqb (r .state .high .ret) n
 claimed program r (workIs bytes) = stackIs (r .state .work) bytes
 claimed program r (retIs bytes) = stackIs (r .state .ret) bytes
 claimed program r (workByte i b) = eqb (getD (r .state .work .bytes) i 0) b
+claimed program r (nextPorts ports) = sameBytes (stepReply (r .state) .ports) ports
 claimed program r (admission a) = sameAnswer (admitCall program (zeros (sheetRecord * length program)) .answer) a
 
 unfoldable pub allClaimed : List ℕ → Reply → List Claim → Bool
@@ -91,17 +96,21 @@ unfoldable pub used : State
 used = usedWith memorySize pageSize stackSize stackSize
 
 -- "after load": a load, then a run with the budget
-unfoldable pub loadAndRun : List ℕ → ℕ → Reply
-loadAndRun program budget = runCall budget (loadCall program used .state)
+unfoldable pub loadAndRun : List ℕ → Watch → ℕ → Reply
+loadAndRun program watch budget = runCall watch budget (loadCall program used .state)
 
 unfoldable pub allHold : List Case → Bool
 allHold [] = true
-allHold (c ∷ cs) = allClaimed (c .program) (loadAndRun (c .program) (c .budget)) (c .claims) && allHold cs
+allHold (c ∷ cs) = allClaimed (c .program) (loadAndRun (c .program) (c .watch) (c .budget)) (c .claims) && allHold cs
 
 -- ---- the cases
 
 abbrev pub case : List ℕ → ℕ → List Claim → Case
-case program budget claims = record { program = program; budget = budget; claims = claims }
+case program budget claims = record { program = program; watch = Watch.Nothing; budget = budget; claims = claims }
+
+-- the run watches this port
+abbrev pub watching : ℕ → List ℕ → ℕ → List Claim → Case
+watching port program budget claims = record { program = program; watch = Watch.Port port; budget = budget; claims = claims }
 
 -- a budget that is enough, where the sheet names none
 abbrev pub enough : ℕ
@@ -321,6 +330,42 @@ marksRaised =
     (workPointer 0 ∷ workHigh 0 ∷ [])
     ∷ []
 
+-- C-18: "Say which port was written."
+unfoldable pub portsWritten : List Case
+portsWritten =
+    -- "none, one": LIT 00, LIT 18, DEO, BRK. DEO writes the byte that stands there
+    case (0x80 ∷ 0x00 ∷ 0x80 ∷ 0x18 ∷ 0x17 ∷ 0x00 ∷ []) 1
+    (nextPorts [] ∷ [])
+    ∷ case (0x80 ∷ 0x00 ∷ 0x80 ∷ 0x18 ∷ 0x17 ∷ 0x00 ∷ []) 2
+    (nextPorts (0x18 ∷ []) ∷ [])
+    -- BRK writes none
+    ∷ case (0x80 ∷ 0x00 ∷ 0x80 ∷ 0x18 ∷ 0x17 ∷ 0x00 ∷ []) 3
+    (nextPorts [] ∷ [])
+    -- "or two in order": LIT2 1234, LIT FF, DEO2, BRK. After FF comes 00
+    ∷ case (0xA0 ∷ 0x12 ∷ 0x34 ∷ 0x80 ∷ 0xFF ∷ 0x37 ∷ 0x00 ∷ []) 2
+    (nextPorts (0xFF ∷ 0x00 ∷ []) ∷ [])
+    -- "stop after a step that wrote it, answering Paused with the steps so far"
+    ∷ watching 0x18 (0x80 ∷ 0x00 ∷ 0x80 ∷ 0x18 ∷ 0x17 ∷ 0x00 ∷ []) enough
+    (answers Paused ∷ steps 3 ∷ counter 0x0105 ∷ workIs [] ∷ workHigh 2 ∷ [])
+    -- "Paused goes before Spent on the last unit"
+    ∷ watching 0x18 (0x80 ∷ 0x00 ∷ 0x80 ∷ 0x18 ∷ 0x17 ∷ 0x00 ∷ []) 3
+    (answers Paused ∷ steps 3 ∷ [])
+    ∷ watching 0x18 (0x80 ∷ 0x00 ∷ 0x80 ∷ 0x18 ∷ 0x17 ∷ 0x00 ∷ []) 2
+    (answers Spent ∷ steps 2 ∷ [])
+    -- the first port, the second, and the one after them
+    ∷ watching 0xFF (0xA0 ∷ 0x12 ∷ 0x34 ∷ 0x80 ∷ 0xFF ∷ 0x37 ∷ 0x00 ∷ []) enough
+    (answers Paused ∷ steps 3 ∷ [])
+    ∷ watching 0x00 (0xA0 ∷ 0x12 ∷ 0x34 ∷ 0x80 ∷ 0xFF ∷ 0x37 ∷ 0x00 ∷ []) enough
+    (answers Paused ∷ steps 3 ∷ [])
+    ∷ watching 0x01 (0xA0 ∷ 0x12 ∷ 0x34 ∷ 0x80 ∷ 0xFF ∷ 0x37 ∷ 0x00 ∷ []) enough
+    (answers Broke ∷ steps 4 ∷ [])
+    -- LIT 19, LITr 05, LITr 18, DEOkr, BRK: the port is that of the return stack
+    ∷ watching 0x18 (0x80 ∷ 0x19 ∷ 0xC0 ∷ 0x05 ∷ 0xC0 ∷ 0x18 ∷ 0xD7 ∷ 0x00 ∷ []) enough
+    (answers Paused ∷ steps 4 ∷ workIs (0x19 ∷ []) ∷ retIs (0x05 ∷ 0x18 ∷ []) ∷ nextPorts [] ∷ [])
+    ∷ watching 0x19 (0x80 ∷ 0x19 ∷ 0xC0 ∷ 0x05 ∷ 0xC0 ∷ 0x18 ∷ 0xD7 ∷ 0x00 ∷ []) enough
+    (answers Broke ∷ steps 5 ∷ [])
+    ∷ []
+
 -- "Admission that .. takes depth 256 for 0": working depths at which ROT2 with keep, which takes six bytes and pushes six,
 -- passes all the rules but the last, and at which it does not
 unfoldable pub depthsFine : List ℕ
@@ -356,14 +401,14 @@ unfoldable pub numbered : List (ℕ × ℕ)
 numbered =
     (numberOf (loadCall [] (usedWith 65535 255 255 255) .answer), 1)
     ∷ (numberOf (stepCall (usedWith 65536 257 255 255) .answer), 2)
-    ∷ (numberOf (runCall 0 (usedWith 65536 256 0 255) .answer), 3)
-    ∷ (numberOf (eventCall 16 0 (usedWith 65536 256 256 257) .answer), 4)
+    ∷ (numberOf (runCall Watch.Nothing 0 (usedWith 65536 256 0 255) .answer), 3)
+    ∷ (numberOf (eventCall Watch.Nothing 16 0 (usedWith 65536 256 256 257) .answer), 4)
     ∷ (numberOf (frameCall [] 0 (usedWith 65537 256 256 256) .answer), 1)
     ∷ (numberOf (loadCall [] used .answer), 5)
     ∷ (numberOf (loadCall (zeros 65280) used .answer), 0)
     ∷ (numberOf (loadCall (zeros 65281) used .answer), 5)
-    ∷ (numberOf (eventCall 15 0 used .answer), 0)
-    ∷ (numberOf (eventCall 16 0 used .answer), 6)
+    ∷ (numberOf (eventCall Watch.Nothing 15 0 used .answer), 0)
+    ∷ (numberOf (eventCall Watch.Nothing 16 0 used .answer), 6)
     ∷ (numberOf (frameCall (replicate 63 0xAA) 0 used .answer), 7)
     ∷ (numberOf (frameCall (replicate 65 0x00) 0 used .answer), 7)
     ∷ (numberOf (frameCall (frameRecord 62 (replicate 62 0xAA)) 0 used .answer), 0)
@@ -428,12 +473,12 @@ framesSeen =
     ∷ (f .state .high .work, 0)
     ∷ []
 
--- a machine with zeros in memory, device 1 with the vector 0200, device 2 with the vector 0; the high mark of
--- the return stack is below its pointer
-unfoldable pub vectored : State
-vectored =
+-- a machine with this byte at 0200, zeros in the rest of memory and on the stacks, device 1 with the vector 0200, device 2 with the vector 0;
+-- the high mark of the return stack is below its pointer
+unfoldable pub vectored : ℕ → State
+vectored byte =
     record {
-      memory = zeros memorySize;
+      memory = zeros 0x0200 ++ (byte ∷ []) ++ zeros 0xFDFF;
       devices = zeros 16 ++ (0x02 ∷ 0x00 ∷ []) ++ zeros 238;
       work = stack (zeros stackSize) 3;
       ret = stack (zeros stackSize) 4;
@@ -443,9 +488,11 @@ vectored =
 
 unfoldable pub eventsSeen : List (ℕ × ℕ)
 eventsSeen =
-    let a = eventCall 1 5 vectored in
-    let b = eventCall 1 0 vectored in
-    let c = eventCall 2 5 vectored in
+    let a = eventCall Watch.Nothing 1 5 (vectored 0x00) in
+    let b = eventCall Watch.Nothing 1 0 (vectored 0x00) in
+    let c = eventCall (Watch.Port 0x00) 2 5 (vectored 0x17) in
+    let d = eventCall (Watch.Port 0x00) 1 5 (vectored 0x17) in
+    let e = eventCall Watch.Nothing 1 5 (vectored 0x17) in
     (answerCode (a .answer), answerCode Broke)
     ∷ (a .steps, 1)
     ∷ (a .state .pc, 0x0201)
@@ -461,6 +508,12 @@ eventsSeen =
     ∷ (a .state .high .ret, 4)
     ∷ (b .state .high .ret, 2)
     ∷ (c .state .high .ret, 2)
+    -- C-18: DEO, to port 00, and BRK after it; Ignored above is "nothing changed" with a watch too
+    ∷ (answerCode (d .answer), answerCode Paused)
+    ∷ (d .steps, 1)
+    ∷ (d .state .pc, 0x0201)
+    ∷ (answerCode (e .answer), answerCode Broke)
+    ∷ (e .steps, 2)
     ∷ []
 
 -- ---- "A step wraps a stack where a pop, a read under keep or a push goes round between 0 and 255."

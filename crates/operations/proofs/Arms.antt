@@ -1,19 +1,22 @@
 -- The whole reply of a step, from what the code of its operation leaves of the parts that it touches. Assumes nothing.
-use mathlib.Core.Path.{_≡_, refl, ap}
-use mathlib.Core.Bool.{Bool, true, false, cond}
+use mathlib.Core.Path.{_≡_, refl, sym, ap, _∙_}
+use mathlib.Core.Bool.{Bool, true, false, cond, not, _&&_}
 use mathlib.Core.List.{List, []}
 use Prim.Native.Nat.{ℕ, zero, suc, _+_, _/_, _%_, _<_}
 use native.Mathlib.Omega.{arith}
 use lib.Dec.{T, eqb, ltb, ltb→lt}
-use borrow.Author.Tests.{eq-eqb, ne-eqb}
-use Rattle.model.specs.Bytes.{word, number, readRing, writeRing}
-use Rattle.model.specs.Machine.{memorySize, Stack, stack, HighMarks, State, pushed, popped, lowered}
+use borrow.Author.Tests.{eqb-true, eqb-false, eq-eqb, ne-eqb}
+use Rattle.model.specs.Bytes.{word, number, readRing, placesRing, writeRing}
+use Rattle.model.specs.Machine.{memorySize, pageSize, Stack, stack, HighMarks, State, pushed, popped, lowered}
 use Rattle.model.specs.Instruction.{Op, Comparison, Arithmetic, opAt, opOf, wide, size, returnMode, keepMode, shape}
 use Rattle.model.specs.Instruction.Op.{JCI, INC, POP, NIP, SWP, ROT, DUP, OVR, compare, JMP, JCN, JSR, STH, LDZ, STZ, LDR, STR, LDA, STA, DEI, DEO, compute, SFT}
-use Rattle.model.specs.Step.{offset, effect, effectOn, words, mainAfter, otherAfter, written, applied, exchanged, operated, execute}
-use Rattle.model.specs.Run.{reply}
+use Rattle.model.specs.Step.{offset, effect, effectOn, words, mainAfter, otherAfter, written, applied, exchanged, operated, execute, sentBy, portsOf}
+use Rattle.model.specs.Run.{Reply, reply, withPorts}
 use Rattle.model.specs.Run.Answer.{WentOn, Broke}
 use Rattle.model.proofs.Keys.{Beside, from-zero}
+use Rattle.model.proofs.Tests.{and-left, and-right, is-true, not-true}
+use Rattle.model.proofs.Changes.{storesDevices}
+use Rattle.model.proofs.Pauses.{no-ports, deo-ports}
 use Rattle.operations.specs.After.{mainWith, executed, byteOf}
 
 -- the state after an operation, its main stack being the working stack, part by part
@@ -129,16 +132,55 @@ bits-are : (key : ℕ) (k : Bool)
 bits-are key true = (omega arith, omega arith, omega arith)
 bits-are key false = (omega arith, omega arith, omega arith)
 
--- the arm for key N
-pub arm : (N : ℕ) (k : Bool) (s : State) → T (ltb 0 (N % 32)) → T (ltb N 128) → {key : ℕ} {t : State} → key ≡ N
-    → t ≡ operated (opAt (N % 32) 0) (eqb (N / 32 % 2) 1) (eqb (N / 64 % 2) 1) k s → reply WentOn 1 0 t ≡ executed (byteOf key k) s
+-- what the code says of a step that went on: the state that it left, and so many ports from this one on
+abbrev pub went : ℕ → ℕ → State → Reply
+went port sent t = withPorts (placesRing pageSize port sent) (reply WentOn 1 0 t)
+
+-- an arm for key N, which writes these ports
+with-ports : (N : ℕ) (k : Bool) (s : State) → 0 < N % 32 → N < 128 → {key : ℕ} {t : State} (ports : List ℕ) → key ≡ N
+    → t ≡ operated (opAt (N % 32) 0) (eqb (N / 32 % 2) 1) (eqb (N / 64 % 2) 1) k s → ports ≡ portsOf (byteOf N k) s
+    → withPorts ports (reply WentOn 1 0 t) ≡ executed (byteOf key k) s
 unfolding execute opOf wide returnMode
-arm N k s t u e g =
-    let h = ltb→lt 0 (N % 32) t in
-    let l = ltb→lt N 128 u in
+with-ports N k s h l ports e g p =
     let b = bits-are N k in
     let some : byteOf N k ≡ 0 → ⊥ = λ z. let low = b .0 in omega arith in
-    rw (e, ne-eqb _ _ some, keep-is N k l, b .0, b .1, b .2, ← op-high (N % 32) (byteOf N k / 32) h, ← g)
+    rw (e, p, ne-eqb _ _ some, keep-is N k l, b .0, b .1, b .2, ← op-high (N % 32) (byteOf N k / 32) h, ← g)
+
+-- the key of an arm that is neither an exception nor DEO
+abbrev pub quiet : ℕ → Bool
+quiet N = ltb 0 (N % 32) && not (eqb (N % 32) 0x17)
+
+byte-low : (N : ℕ) (k : Bool) → N < 128 → byteOf N k < 256
+byte-low N true l = omega arith
+byte-low N false l = omega arith
+
+-- the arm for key N: it writes no port
+pub arm : (N : ℕ) (k : Bool) (s : State) → T (quiet N) → T (ltb N 128) → {key : ℕ} {t : State} → key ≡ N
+    → t ≡ operated (opAt (N % 32) 0) (eqb (N / 32 % 2) 1) (eqb (N / 64 % 2) 1) k s → went 0 0 t ≡ executed (byteOf key k) s
+unfolding placesRing
+arm N k s t u e g =
+    let l = ltb→lt N 128 u in
+    let other = eqb-false (N % 32) 0x17 (not-true (eqb (N % 32) 0x17) (and-right (ltb 0 (N % 32)) _ t)) in
+    let none : storesDevices (byteOf N k) ≡ false = rw (bits-are N k .0, ne-eqb (N % 32) 0x17 other) in
+    with-ports N k s (ltb→lt 0 (N % 32) (and-left (ltb 0 (N % 32)) _ t)) l [] e g (sym (no-ports (byteOf N k) s (byte-low N k l) none))
+
+size-is : (w : Bool) → cond w 2 1 ≡ size w
+unfolding size
+size-is true = refl
+size-is false = refl
+
+-- the arm for key N, which is DEO
+pub deo-arm : (N : ℕ) (k : Bool) (s : State) → T (eqb (N % 32) 0x17) → T (ltb N 128) → {key port sent : ℕ} {t : State} → key ≡ N
+    → t ≡ operated (opAt (N % 32) 0) (eqb (N / 32 % 2) 1) (eqb (N / 64 % 2) 1) k s
+    → port ≡ effectOn [] [] 0 0 DEO (eqb (N / 32 % 2) 1) (exchanged (eqb (N / 64 % 2) 1) s .work) .place → sent ≡ cond (eqb (N / 32 % 2) 1) 2 1
+    → went port sent t ≡ executed (byteOf key k) s
+unfolding wide returnMode
+deo-arm N k s t u {port = port} {sent = sent} e g p n =
+    let l = ltb→lt N 128 u in
+    let b = bits-are N k in
+    let low = eqb-true (N % 32) 0x17 (is-true _ t) in
+    let ports : placesRing pageSize port sent ≡ portsOf (byteOf N k) s = rw (deo-ports (byteOf N k) s (b .0 ∙ low), b .1, b .2, p, n, size-is (eqb (N / 32 % 2) 1)) in
+    with-ports N k s (omega arith) l (placesRing pageSize port sent) e g ports
 
 -- the main stack is the working stack, or the return stack
 module _ (o : Op) (w k : Bool) (s : State) where
@@ -157,7 +199,7 @@ abbrev pub inlined : State → Bool → ℕ
 inlined s w = number (readRing memorySize (s .memory) (s .pc + 1) (size w))
 
 unfoldable decoded : Unit {0}
-unfolding execute opOf wide returnMode keepMode operated opened lowered popped
+unfolding execute portsOf sentBy placesRing opOf wide returnMode keepMode operated opened lowered popped
 decoded = tt
 
 module _ (s : State) {key : ℕ} {k : Bool} where
@@ -168,25 +210,25 @@ module _ (s : State) {key : ℕ} {k : Bool} where
 
   pub jci-is : {r q : ℕ} → key ≡ 32 → k ≡ false → r ≡ effectOn [] [] ((s .pc + 3) % 65536) (inlined s true) JCI false (s .work) .target
       → q ≡ lowered false 1 (s .work .pointer)
-      → reply WentOn 1 0 (left (s .high) (s .memory) (s .devices) (stack (s .work .bytes) q) (s .ret) r) ≡ executed (byteOf key k) s
+      → went 0 0 (left (s .high) (s .memory) (s .devices) (stack (s .work .bytes) q) (s .ret) r) ≡ executed (byteOf key k) s
   unfolding decoded
   jci-is e f hr hq = rw (e, f, hr, hq)
 
   pub jmi-is : {r : ℕ} → key ≡ 64 → k ≡ false → r ≡ offset ((s .pc + 3) % 65536) (inlined s true)
-      → reply WentOn 1 0 (left (s .high) (s .memory) (s .devices) (s .work) (s .ret) r) ≡ executed (byteOf key k) s
+      → went 0 0 (left (s .high) (s .memory) (s .devices) (s .work) (s .ret) r) ≡ executed (byteOf key k) s
   unfolding decoded
   jmi-is e f hr = rw (e, f, hr)
 
   pub jsi-is : {r n : ℕ} {t : Stack} → key ≡ 96 → k ≡ false → r ≡ offset ((s .pc + 3) % 65536) (inlined s true) → n ≡ (s .pc + 3) % 65536
       → t ≡ pushed (word (size true) n) (s .ret)
-      → reply WentOn 1 0 (left (s .high) (s .memory) (s .devices) (s .work) t r) ≡ executed (byteOf key k) s
+      → went 0 0 (left (s .high) (s .memory) (s .devices) (s .work) t r) ≡ executed (byteOf key k) s
   unfolding decoded
   jsi-is e f hr hn ht = rw (e, f, hr, ht, hn)
 
 -- LIT, in both widths and on either stack
 pub lit-is : (w r : Bool) (s : State) {key : ℕ} {k : Bool} {n : ℕ} {t : Stack} → key ≡ cond r 64 0 + cond w 32 0 → k ≡ true
     → n ≡ (s .pc + cond w 3 2) % 65536 → t ≡ pushed (word (size w) (inlined s w)) (exchanged r s .work)
-    → reply WentOn 1 0 (exchanged r (left (s .high) (s .memory) (s .devices) t (exchanged r s .ret) n)) ≡ executed (byteOf key k) s
+    → went 0 0 (exchanged r (left (s .high) (s .memory) (s .devices) t (exchanged r s .ret) n)) ≡ executed (byteOf key k) s
 unfolding decoded
 lit-is true true s e f hn ht = rw (e, f, hn, ht)
 lit-is true false s e f hn ht = rw (e, f, hn, ht)

@@ -6,8 +6,8 @@ use Prim.Native.Nat.{ℕ, _+_}
 use lib.Dec.{eqb}
 use Rattle.model.specs.Machine.{Stack, State}
 use Rattle.model.specs.Instruction.{Op}
-use Rattle.model.specs.Step.{effectOn, mainAfter, execute}
-use Rattle.model.specs.Run.{Reply, reply}
+use Rattle.model.specs.Step.{effectOn, mainAfter, execute, portsOf}
+use Rattle.model.specs.Run.{Reply, reply, withPorts}
 use Rattle.model.specs.Run.Answer.{WentOn, Broke}
 
 -- the main stack after an operation, with the memory, the device page and the next address that it may use
@@ -16,7 +16,7 @@ mainWith memory devices next o w keep s = mainAfter o w keep (effectOn memory de
 
 -- the reply of a step that carries out this byte
 abbrev pub executed : ℕ → State → Reply
-executed byte s = reply (cond (eqb byte 0x00) Broke WentOn) 1 0 (execute byte s)
+executed byte s = withPorts (portsOf byte s) (reply (cond (eqb byte 0x00) Broke WentOn) 1 0 (execute byte s))
 
 -- the instruction byte with these low seven bits and bit 7
 abbrev pub byteOf : ℕ → Bool → ℕ

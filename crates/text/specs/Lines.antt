@@ -5,7 +5,7 @@ use mathlib.Core.List.{List, [], _∷_, _++_}
 use Prim.Native.Nat.{ℕ, _+_, _/_, _%_}
 use lib.Dec.{ltb}
 use Rattle.model.specs.Run.{Answer, Reply}
-use Rattle.model.specs.Run.Answer.{Refused, Loaded, WentOn, Broke, Spent, Ignored, Admitted}
+use Rattle.model.specs.Run.Answer.{Refused, Loaded, WentOn, Broke, Spent, Paused, Ignored, Admitted}
 use Rattle.model.specs.Calls.{passed}
 
 abbrev pub passLine : List ℕ
@@ -41,6 +41,7 @@ lineOf Spent verdict = spentLine
 lineOf (Refused n) verdict = refusedLine n
 lineOf Loaded verdict = []
 lineOf WentOn verdict = []
+lineOf Paused verdict = []
 lineOf Ignored verdict = []
 lineOf Admitted verdict = []
 

@@ -101,6 +101,15 @@ pub fn sta(memory: &mut [u8], s: &[u8], p: u8, wide: bool)
     store(memory, x[1], wide, x[0]);
 }
 
+// DEO value port8: the port.
+pub fn port_of(s: &[u8], p: u8, wide: bool) -> u16
+    requires { ⌜ length (now s) ≡ stackSize ⌝ }
+    ensures { λ r. ⌜ r ≡ effectOn [] [] 0 0 DEO wide (stack (now (s .entry)) p) .place ⌝ }
+{
+    let x = operands(s, p, size_of(wide), 1, 0);
+    x[1]
+}
+
 // DEO value port8.
 pub fn deo(devices: &mut [u8], s: &[u8], p: u8, wide: bool)
     requires { ⌜ (length (now devices) ≡ pageSize) × (length (now s) ≡ stackSize) ⌝ }

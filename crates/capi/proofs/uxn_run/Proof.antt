@@ -6,12 +6,13 @@ use Rattle.capi.proofs.uxn_run.Statement.{statement}
 use Rattle.capi.proofs.uxn_run.Tie as tie
 
 returns : tie.Need-returns
-returns c = c .of-run .ensures _ _ _ _ ∙ ap exported (c .before .before .before .before .before .before .before .before .before .run .ensures)
+returns c = c .of-run .ensures _ _ _ _ ∙ ap exported (rw (c .before .before .before .before .before .before .before .before .before .before .watch-of .ensures) at (c .before .before .before .before .before .before .before .before .before .run .ensures))
 
 pub uxn-run-spec : {M : Type 1} → statement M
 uxn-run-spec =
     tie.close
     (tie.spec
+    (λ c κs. search needs)
     (λ c κs. search needs)
     (λ c κs. search needs)
     (λ c. search needs)

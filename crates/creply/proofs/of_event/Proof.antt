@@ -15,6 +15,9 @@ returns-3 c = λ p q w t. rw (c .done2 .ensures, c .before .before .reply3 .give
 returns-4 : tie.Need-returns-4
 returns-4 c = λ p q w t. rw (c .done3 .ensures, c .before .before .reply4 .given .1)
 
+returns-5 : tie.Need-returns-5
+returns-5 c = λ p q w t. rw (c .done4 .ensures, c .before .before .reply5 .given .1)
+
 pub of-event-spec : {M : Type 1} → statement M
 of-event-spec =
     tie.close
@@ -27,7 +30,10 @@ of-event-spec =
     (λ c κs. search needs)
     (λ c. search needs)
     (λ c κs. search needs)
+    (λ c. search needs)
+    (λ c κs. search needs)
     returns
     returns-2
     returns-3
-    returns-4)
+    returns-4
+    returns-5)

@@ -12,6 +12,9 @@ returns-2 c = λ p q w t. rw (c .done .ensures, c .before .before .reply2 .given
 returns-3 : tie.Need-returns-3
 returns-3 c = λ p q w t. rw (c .done2 .ensures, c .before .before .reply3 .given .1)
 
+returns-4 : tie.Need-returns-4
+returns-4 c = λ p q w t. rw (c .done3 .ensures, c .before .before .reply4 .given .1)
+
 pub of-run-spec : {M : Type 1} → statement M
 of-run-spec =
     tie.close
@@ -22,6 +25,9 @@ of-run-spec =
     (λ c κs. search needs)
     (λ c. search needs)
     (λ c κs. search needs)
+    (λ c. search needs)
+    (λ c κs. search needs)
     returns
     returns-2
-    returns-3)
+    returns-3
+    returns-4)

@@ -7,10 +7,10 @@ returns : tie.Need-returns
 returns c = λ p q w t. rw (c .refused .ensures, c .before .before .reply .given .1)
 
 returns-2 : tie.Need-returns-2
-returns-2 c = λ p q w t. rw (c .done .ensures, c .before .before .reply2 .given .1)
+returns-2 c = λ p q w t. rw (c .before .before .reply2 .given .1) ((c .of-went-on .ensures) p q w t)
 
 returns-3 : tie.Need-returns-3
-returns-3 c = λ p q w t. rw (c .done2 .ensures, c .before .before .reply3 .given .1)
+returns-3 c = λ p q w t. rw (c .done .ensures, c .before .before .reply3 .given .1)
 
 pub of-step-spec : {M : Type 1} → statement M
 of-step-spec =

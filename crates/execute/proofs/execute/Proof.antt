@@ -79,7 +79,7 @@ returns-24 : tie.Need-returns-24
 returns-24 c = laws.arm 22 _ _ tt tt (c .before .before .before .before .before .match .keys23) (laws.on-work _ _ _ _ (laws.pure-is _ _ _ (c .before .before .before .before .before .before .wrapping-add-u16 .ensures) laws.Pure.dei (c .before .before .dei .ensures)))
 
 returns-25 : tie.Need-returns-25
-returns-25 c = laws.arm 23 _ _ tt tt (c .before .before .before .before .before .before .match .keys24) (laws.on-work _ _ _ _ (laws.deo-is _ _ _ (c .before .before .before .before .before .before .before .wrapping-add-u16 .ensures) (c .before .before .before .deo .ensures) (c .lower8 .ensures)))
+returns-25 c = laws.deo-arm 23 _ _ tt tt (c .before .before .before .before .before .before .before .before .match .keys24) (laws.on-work _ _ _ _ (laws.deo-is _ _ _ (c .before .before .before .before .before .before .before .before .before .wrapping-add-u16 .ensures) (c .before .before .before .before .before .deo .ensures) (c .lower8 .ensures))) (c .before .port-of .ensures) refl
 
 returns-26 : tie.Need-returns-26
 returns-26 c = laws.arm 24 _ _ tt tt (c .before .before .before .before .match .keys25) (laws.on-work _ _ _ _ (laws.pure-is _ _ _ (c .before .before .before .before .before .wrapping-add-u16 .ensures) laws.Pure.computing (c .before .before .compute .ensures)))
@@ -178,7 +178,7 @@ returns-57 : tie.Need-returns-57
 returns-57 c = laws.arm 54 _ _ tt tt (c .before .before .before .before .before .match .keys55) (laws.on-work _ _ _ _ (laws.pure-is _ _ _ (c .before .before .before .before .before .before .wrapping-add-u16 .ensures) laws.Pure.dei (c .before .before .dei2 .ensures)))
 
 returns-58 : tie.Need-returns-58
-returns-58 c = laws.arm 55 _ _ tt tt (c .before .before .before .before .before .before .match .keys56) (laws.on-work _ _ _ _ (laws.deo-is _ _ _ (c .before .before .before .before .before .before .before .wrapping-add-u16 .ensures) (c .before .before .before .deo2 .ensures) (c .lower17 .ensures)))
+returns-58 c = laws.deo-arm 55 _ _ tt tt (c .before .before .before .before .before .before .before .before .match .keys56) (laws.on-work _ _ _ _ (laws.deo-is _ _ _ (c .before .before .before .before .before .before .before .before .before .wrapping-add-u16 .ensures) (c .before .before .before .before .before .deo2 .ensures) (c .lower17 .ensures))) (c .before .port-of2 .ensures) refl
 
 returns-59 : tie.Need-returns-59
 returns-59 c = laws.arm 56 _ _ tt tt (c .before .before .before .before .match .keys57) (laws.on-work _ _ _ _ (laws.pure-is _ _ _ (c .before .before .before .before .before .wrapping-add-u16 .ensures) laws.Pure.computing (c .before .before .compute8 .ensures)))
@@ -277,7 +277,7 @@ returns-90 : tie.Need-returns-90
 returns-90 c = laws.arm 86 _ _ tt tt (c .before .before .before .before .before .match .keys87) (laws.on-return _ _ _ _ (laws.pure-is _ _ _ (c .before .before .before .before .before .before .wrapping-add-u16 .ensures) laws.Pure.dei (c .before .before .dei3 .ensures)))
 
 returns-91 : tie.Need-returns-91
-returns-91 c = laws.arm 87 _ _ tt tt (c .before .before .before .before .before .before .match .keys88) (laws.on-return _ _ _ _ (laws.deo-is _ _ _ (c .before .before .before .before .before .before .before .wrapping-add-u16 .ensures) (c .before .before .before .deo3 .ensures) (c .lower25 .ensures)))
+returns-91 c = laws.deo-arm 87 _ _ tt tt (c .before .before .before .before .before .before .before .before .match .keys88) (laws.on-return _ _ _ _ (laws.deo-is _ _ _ (c .before .before .before .before .before .before .before .before .before .wrapping-add-u16 .ensures) (c .before .before .before .before .before .deo3 .ensures) (c .lower25 .ensures))) (c .before .port-of3 .ensures) refl
 
 returns-92 : tie.Need-returns-92
 returns-92 c = laws.arm 88 _ _ tt tt (c .before .before .before .before .match .keys89) (laws.on-return _ _ _ _ (laws.pure-is _ _ _ (c .before .before .before .before .before .wrapping-add-u16 .ensures) laws.Pure.computing (c .before .before .compute15 .ensures)))
@@ -376,7 +376,7 @@ returns-123 : tie.Need-returns-123
 returns-123 c = laws.arm 118 _ _ tt tt (c .before .before .before .before .before .match .keys119) (laws.on-return _ _ _ _ (laws.pure-is _ _ _ (c .before .before .before .before .before .before .wrapping-add-u16 .ensures) laws.Pure.dei (c .before .before .dei4 .ensures)))
 
 returns-124 : tie.Need-returns-124
-returns-124 c = laws.arm 119 _ _ tt tt (c .before .before .before .before .before .before .match .keys120) (laws.on-return _ _ _ _ (laws.deo-is _ _ _ (c .before .before .before .before .before .before .before .wrapping-add-u16 .ensures) (c .before .before .before .deo4 .ensures) (c .lower33 .ensures)))
+returns-124 c = laws.deo-arm 119 _ _ tt tt (c .before .before .before .before .before .before .before .before .match .keys120) (laws.on-return _ _ _ _ (laws.deo-is _ _ _ (c .before .before .before .before .before .before .before .before .before .wrapping-add-u16 .ensures) (c .before .before .before .before .before .deo4 .ensures) (c .lower33 .ensures))) (c .before .port-of4 .ensures) refl
 
 returns-125 : tie.Need-returns-125
 returns-125 c = laws.arm 120 _ _ tt tt (c .before .before .before .before .match .keys121) (laws.on-return _ _ _ _ (laws.pure-is _ _ _ (c .before .before .before .before .before .wrapping-add-u16 .ensures) laws.Pure.computing (c .before .before .compute22 .ensures)))
@@ -441,6 +441,7 @@ execute-spec =
     (λ c κs. tt)
     (λ c κs. (c .before .before .before .before .before .before .before .before .pre .0 .devices, c .before .before .before .before .before .before .before .before .pre .0 .work))
     (λ c κs. (c .before .before .before .before .before .before .before .before .pre .0 .devices, c .before .before .before .before .before .before .before .before .pre .0 .work))
+    (λ c κs. c .before .before .before .before .before .before .before .before .before .before .before .before .pre .0 .work)
     (λ c κs. tt)
     (λ c κs. c .before .before .before .before .before .before .before .pre .0 .work)
     (λ c κs. c .before .before .before .before .before .before .before .pre .0 .work)
@@ -485,6 +486,7 @@ execute-spec =
     (λ c κs. tt)
     (λ c κs. (c .before .before .before .before .before .before .before .before .pre .0 .devices, c .before .before .before .before .before .before .before .before .pre .0 .work))
     (λ c κs. (c .before .before .before .before .before .before .before .before .pre .0 .devices, c .before .before .before .before .before .before .before .before .pre .0 .work))
+    (λ c κs. c .before .before .before .before .before .before .before .before .before .before .before .before .pre .0 .work)
     (λ c κs. tt)
     (λ c κs. c .before .before .before .before .before .before .before .pre .0 .work)
     (λ c κs. c .before .before .before .before .before .before .before .pre .0 .work)
@@ -528,6 +530,7 @@ execute-spec =
     (λ c κs. tt)
     (λ c κs. (c .before .before .before .before .before .before .before .before .pre .0 .devices, c .before .before .before .before .before .before .before .before .pre .0 .ret))
     (λ c κs. (c .before .before .before .before .before .before .before .before .pre .0 .devices, c .before .before .before .before .before .before .before .before .pre .0 .ret))
+    (λ c κs. c .before .before .before .before .before .before .before .before .before .before .before .before .pre .0 .ret)
     (λ c κs. tt)
     (λ c κs. c .before .before .before .before .before .before .before .pre .0 .ret)
     (λ c κs. c .before .before .before .before .before .before .before .pre .0 .ret)
@@ -573,6 +576,7 @@ execute-spec =
     (λ c κs. tt)
     (λ c κs. (c .before .before .before .before .before .before .before .before .pre .0 .devices, c .before .before .before .before .before .before .before .before .pre .0 .ret))
     (λ c κs. (c .before .before .before .before .before .before .before .before .pre .0 .devices, c .before .before .before .before .before .before .before .before .pre .0 .ret))
+    (λ c κs. c .before .before .before .before .before .before .before .before .before .before .before .before .pre .0 .ret)
     (λ c κs. tt)
     (λ c κs. c .before .before .before .before .before .before .before .pre .0 .ret)
     (λ c κs. c .before .before .before .before .before .before .before .pre .0 .ret)
@@ -638,7 +642,7 @@ execute-spec =
     (λ c. refl)
     (λ c. c .before .work15 .given)
     returns-24
-    (λ c. c .before .before .devices .given)
+    (λ c. c .before .before .before .before .devices .given)
     (λ c. refl)
     returns-25
     (λ c. c .before .work16 .given)
@@ -716,7 +720,7 @@ execute-spec =
     (λ c. refl)
     (λ c. c .before .work38 .given)
     returns-57
-    (λ c. c .before .before .devices2 .given)
+    (λ c. c .before .before .before .before .devices2 .given)
     (λ c. refl)
     returns-58
     (λ c. c .before .work39 .given)
@@ -793,7 +797,7 @@ execute-spec =
     (λ c. refl)
     (λ c. c .before .ret19 .given)
     returns-90
-    (λ c. c .before .before .devices3 .given)
+    (λ c. c .before .before .before .before .devices3 .given)
     (λ c. refl)
     returns-91
     (λ c. c .before .ret20 .given)
@@ -871,7 +875,7 @@ execute-spec =
     (λ c. refl)
     (λ c. c .before .ret43 .given)
     returns-123
-    (λ c. c .before .before .devices4 .given)
+    (λ c. c .before .before .before .before .devices4 .given)
     (λ c. refl)
     returns-124
     (λ c. c .before .ret44 .given)

@@ -3,7 +3,7 @@ use Rattle.machine.proofs.Calls as calls
 use Rattle.model.proofs.Numbers as numbers
 use mathlib.Core.Path.{ap, _∙_}
 use Rattle.model.specs.Run.{run}
-use Rattle.model.specs.Calls.{frameCall, withVerdict}
+use Rattle.model.specs.Calls.{frameCall}
 use borrow.Author.Needs.{needs}
 use Rattle.machine.proofs.frame.Statement.{statement}
 use Rattle.machine.proofs.frame.Tie as tie
@@ -26,7 +26,7 @@ verdict-requires c κs = let z = numbers.frame-right _ _ (calls.none _ (c .befor
 
 returns-2 : tie.Need-returns-2
 unfolding frameCall
-returns-2 c = calls.taken _ _ _ (c .before .before .before .before .before .before .before .before .before .before .before .before .before .before .before .before .before .before .before .before .before .before .before .before .before .frame-refusal .ensures _) (c .before .before .before .before .before .before .before .before .before .before .before .before .before .before .before .before .before .before .before .before .before .before .before .before .if1 .left) (rw (c .frame-of .ensures) (calls.frame-is _ _ _ (c .before .before .before .before .before .before .before .before .before .before .before .run .result) (λ m. c .before .verdict .ensures) ∙ ap withVerdict (c .before .before .before .before .before .before .before .before .before .before .before .run .ensures .0 ∙ ap (run _) (calls.framed-is _ _ (c .before .before .before .before .before .before .before .before .before .before .before .before .before .before .before .before .before .before .before .before .before .before .frame-memory .ensures) (c .before .before .before .before .before .before .before .before .before .before .before .before .before .before .before .before .before .before .clear-verdict .ensures)))))
+returns-2 c = calls.taken _ _ _ (c .before .before .before .before .before .before .before .before .before .before .before .before .before .before .before .before .before .before .before .before .before .before .before .before .before .frame-refusal .ensures _) (c .before .before .before .before .before .before .before .before .before .before .before .before .before .before .before .before .before .before .before .before .before .before .before .before .if1 .left) (rw (c .frame-of .ensures) (calls.frame-is _ _ _ _ (c .before .before .before .before .before .before .before .before .before .before .before .run .result) (λ m. c .before .verdict .ensures) (c .before .before .before .before .before .before .before .before .before .before .before .run .ensures .0 ∙ ap (run _ _) (calls.framed-is _ _ (c .before .before .before .before .before .before .before .before .before .before .before .before .before .before .before .before .before .before .before .before .before .before .frame-memory .ensures) (c .before .before .before .before .before .before .before .before .before .before .before .before .before .before .before .before .before .before .clear-verdict .ensures)))))
 
 pub frame-spec : {M : Type 1} → statement M
 frame-spec =
