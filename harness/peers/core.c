@@ -1,7 +1,7 @@
 /* A Uxn core for the speed comparison, in the manner of the reference core uxn.c: one switch over
  * the 256 instruction bytes and macros for the modes. Counter, stack pointers and high marks are in
- * locals. The calls have the interface of the proved library; compiled with -DPEER=name they are
- * name_run, name_frame and name_load. */
+ * locals. Only the arms that write ports look at what is watched. The calls have the interface of the
+ * proved library; compiled with -DPEER=name they are name_run, name_frame and name_load. */
 
 #include <stddef.h>
 #include <stdint.h>
@@ -21,9 +21,14 @@ typedef struct {
     uint8_t number;
     uint8_t answer;
     uint8_t verdict;
+    uint8_t sent;
+    uint8_t ports[2];
 } reply;
 
-enum { REFUSED, LOADED, WENT_ON, BROKE, SPENT };
+enum { REFUSED, LOADED, WENT_ON, BROKE, SPENT, IGNORED, PAUSED };
+
+/* As every number above 255. */
+enum { WATCH_NONE = 256 };
 
 #define JOIN2(a, b) a##_##b
 #define JOIN(a, b) JOIN2(a, b)
@@ -33,7 +38,7 @@ enum { REFUSED, LOADED, WENT_ON, BROKE, SPENT };
     machine from, uint8_t *restrict mem, size_t mem_len, uint8_t *restrict dev, size_t dev_len,    \
         uint8_t *restrict wst, size_t wst_len, uint8_t *restrict rst, size_t rst_len
 
-reply CALL(run)(BUFFERS, uint32_t budget);
+reply CALL(run)(BUFFERS, uint32_t budget, uint16_t watch);
 reply CALL(frame)(BUFFERS, const uint8_t *record, size_t record_len, uint32_t budget);
 reply CALL(load)(BUFFERS, const uint8_t *program, size_t program_len);
 
@@ -44,7 +49,7 @@ static uint8_t wrong_buffer(size_t mem_len, size_t dev_len, size_t wst_len, size
 
 static reply refused(machine from, uint8_t number)
 {
-    return (reply){from, 0, number, REFUSED, 0};
+    return (reply){from, 0, number, REFUSED, 0, 0, {0, 0}};
 }
 
 /* Stacks: R is 1 in return mode, where the return stack is the main one. */
@@ -118,6 +123,14 @@ static reply refused(machine from, uint8_t number)
             page[at] = (uint8_t)(value);                                                           \
     }
 
+/* After a write of the watched port nothing is left of the budget. */
+#define PAUSE(port)                                                                                \
+    if ((port) == watch || (S && (uint8_t)((port) + 1) == watch)) {                                \
+        answer = PAUSED;                                                                           \
+        budget -= left;                                                                            \
+        left = 0;                                                                                  \
+    }
+
 /* An operation in its eight modes: operands are read, keep resets the pointer, results follow. */
 #define MODE(byte, s, r, keep, restore, take, give)                                                \
     case byte: {                                                                                   \
@@ -163,7 +176,8 @@ static inline uint16_t product(uint16_t a, uint16_t b)
 
 /* A run on buffers of the right lengths. */
 static inline reply run_sized(machine from, uint8_t *restrict mem, uint8_t *restrict dev,
-                              uint8_t *restrict wst, uint8_t *restrict rst, uint32_t budget)
+                              uint8_t *restrict wst, uint8_t *restrict rst, uint32_t budget,
+                              uint16_t watch)
 {
     uint16_t pc = from.pc;
     uint8_t wp = from.wp;
@@ -224,7 +238,7 @@ static inline reply run_sized(machine from, uint8_t *restrict mem, uint8_t *rest
         OPERATION(0x14, POP16(to), LOAD(to))                                      /* LDA */
         OPERATION(0x15, POP16(to) POP(a), STORE(to, a))                           /* STA */
         OPERATION(0x16, POP8(port), READ(dev, port))                              /* DEI */
-        OPERATION(0x17, POP8(port) POP(a), WRITE(dev, port, a))                   /* DEO */
+        OPERATION(0x17, POP8(port) POP(a), WRITE(dev, port, a) PAUSE(port))       /* DEO */
         OPERATION(0x18, POP(b) POP(a), PUSH(a + b))                               /* ADD */
         OPERATION(0x19, POP(b) POP(a), PUSH(a - b))                               /* SUB */
         OPERATION(0x1a, POP(b) POP(a), PUSH(product(a, b)))                       /* MUL */
@@ -237,15 +251,15 @@ static inline reply run_sized(machine from, uint8_t *restrict mem, uint8_t *rest
         RAISE
     }
 end:
-    return (reply){{pc, wp, rp, wp_high, rp_high}, budget - left, 0, answer, 0};
+    return (reply){{pc, wp, rp, wp_high, rp_high}, budget - left, 0, answer, 0, 0, {0, 0}};
 }
 
-reply CALL(run)(BUFFERS, uint32_t budget)
+reply CALL(run)(BUFFERS, uint32_t budget, uint16_t watch)
 {
     uint8_t number = wrong_buffer(mem_len, dev_len, wst_len, rst_len);
     if (number)
         return refused(from, number);
-    return run_sized(from, mem, dev, wst, rst, budget);
+    return run_sized(from, mem, dev, wst, rst, budget, watch);
 }
 
 reply CALL(frame)(BUFFERS, const uint8_t *record, size_t record_len, uint32_t budget)
@@ -263,7 +277,7 @@ reply CALL(frame)(BUFFERS, const uint8_t *record, size_t record_len, uint32_t bu
     dev[0xf2] = 0;
     memcpy(mem + 0x0080, record, 64);
     machine start = {0x0100, 0, 0, 0, 0};
-    reply ran = run_sized(start, mem, dev, wst, rst, budget);
+    reply ran = run_sized(start, mem, dev, wst, rst, budget, WATCH_NONE);
     if (ran.answer == BROKE)
         ran.verdict = dev[0xf2];
     return ran;
@@ -281,5 +295,5 @@ reply CALL(load)(BUFFERS, const uint8_t *program, size_t program_len)
     memset(dev, 0, 256);
     memset(wst, 0, 256);
     memset(rst, 0, 256);
-    return (reply){{0x0100, 0, 0, 0, 0}, 0, 0, LOADED, 0};
+    return (reply){{0x0100, 0, 0, 0, 0}, 0, 0, LOADED, 0, 0, {0, 0}};
 }

@@ -39,6 +39,14 @@ pub const WENT_ON: u8 = 2;
 pub const BROKE: u8 = 3;
 pub const SPENT: u8 = 4;
 pub const IGNORED: u8 = 5;
+pub const PAUSED: u8 = 6;
+
+/// Watches nothing, as does every number above 255; a smaller one is the port that is watched.
+pub const WATCH_NONE: u16 = 256;
+
+/// Numbers that are no port: ends, and some that would be port 0, 1, 3 or 255 if only their low 8 or 15
+/// bits were looked at.
+pub const NO_PORTS: [u16; 7] = [WATCH_NONE, 257, 256 + 3, 511, 32_768, 32_768 + 3, 65_535];
 
 /// The machine record: program counter, working and return stack pointer, and the high mark of each.
 #[repr(C)]
@@ -72,6 +80,9 @@ pub struct Reply {
     pub number: u8,
     pub answer: u8,
     pub verdict: u8,
+    /// How many ports a step wrote, and which, in the order of writing; 0 where there is none.
+    pub sent: u8,
+    pub ports: [u8; 2],
 }
 
 /// What a call that writes to a lent output replies: how many bytes it wrote, a line, the number of
@@ -107,11 +118,11 @@ pub struct Why {
     pub other: Place,
 }
 
-const _: () = assert!(size_of::<Machine>() == 6 && size_of::<Reply>() == 16);
+const _: () = assert!(size_of::<Machine>() == 6 && size_of::<Reply>() == 20);
 const _: () = assert!(size_of::<Written>() == 16);
 const _: () = assert!(size_of::<Place>() == 6 && size_of::<Why>() == 22);
 
-/// A refusal: its number, 0 steps, verdict 0 and the record as it was given.
+/// A refusal: its number, the record as it was given, and 0 in all else.
 pub fn refused(machine: Machine, number: u8) -> Reply {
     Reply {
         machine,
@@ -119,6 +130,8 @@ pub fn refused(machine: Machine, number: u8) -> Reply {
         number,
         answer: REFUSED,
         verdict: 0,
+        sent: 0,
+        ports: [0; 2],
     }
 }
 

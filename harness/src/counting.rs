@@ -8,7 +8,7 @@ use std::path::Path;
 use std::process::{id, Command};
 use std::{env, fs};
 
-use crate::calls::{ADMITTED, SHEET_RECORD};
+use crate::calls::{ADMITTED, SHEET_RECORD, WATCH_NONE};
 use crate::peers::{admissions, cores};
 use crate::timing::{Growth, Row, ADMITTED_LENGTHS};
 use crate::workloads::{operations, prepared, workloads, Workload, SHAPES, STEPS_AN_OPERATION};
@@ -90,7 +90,7 @@ fn steps(workload: &Workload, count: Count) -> Row {
         let [few, many] = STEPS.map(|steps| {
             owned.copy_from(&start);
             count(&mut || {
-                let reply = (core.run)(machine, owned.lend(), steps);
+                let reply = (core.run)(machine, owned.lend(), steps, WATCH_NONE);
                 assert_eq!(reply.steps, steps, "{}: {}", workload.name, core.name);
             })
         });

@@ -5,8 +5,8 @@ use crate::calls::{Why, Written};
 
 c_call!(load = "uxn_load", slice program);
 c_call!(step = "uxn_step");
-c_call!(run = "uxn_run", number budget: u32);
-c_call!(event = "uxn_event", number device: u32, number budget: u32);
+c_call!(run = "uxn_run", number budget: u32, number watch: u16);
+c_call!(event = "uxn_event", number device: u32, number budget: u32, number watch: u16);
 c_call!(frame = "uxn_frame", slice record, number budget: u32);
 
 /// Admission; answers 0 if the program is admitted, else the number.

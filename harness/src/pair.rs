@@ -4,7 +4,7 @@
 
 use std::io::Write;
 
-use crate::calls::{self, Buffers, Machine, Reply, MEMORY, PAGE};
+use crate::calls::{self, Buffers, Machine, Reply, MEMORY, NO_PORTS, PAGE};
 use crate::library;
 use crate::random::Random;
 use crate::second::{self, Answer};
@@ -59,6 +59,13 @@ pub struct Snapshot {
     buffers: [Vec<u8>; 4],
 }
 
+/// A port that was written, and by which step; the first one is step 1.
+#[derive(Clone, Copy, PartialEq, Eq, Debug)]
+pub struct PortWrite {
+    pub step: u32,
+    pub port: u8,
+}
+
 pub struct Pair {
     seed: u64,
     calls: u64,
@@ -66,6 +73,8 @@ pub struct Pair {
     pub compared_steps: u64,
     /// Steps of runs; everything was compared after each run.
     pub run_steps: u64,
+    /// Runs and events that were paused.
+    pub pauses: u64,
     pub machine: Machine,
     library: [Guarded; 4],
     second: second::Parts,
@@ -83,6 +92,7 @@ impl Pair {
             calls: 0,
             compared_steps: 0,
             run_steps: 0,
+            pauses: 0,
             machine: Machine::default(),
             library: lengths.map(Guarded::new),
             second: second::Parts {
@@ -173,21 +183,41 @@ impl Pair {
         self.compare(what, mine, other)
     }
 
-    pub fn run(&mut self, budget: u32) -> Reply {
+    /// `watch` as in C.
+    pub fn run(&mut self, budget: u32, watch: u16) -> Reply {
         let before = self.machine;
-        let mine = library::run(before, lend(&mut self.library), budget);
-        let other = second::run(record_of(before), &mut self.second, budget);
+        let mine = library::run(before, lend(&mut self.library), budget, watch);
+        let port = port_of(watch);
+        let other = second::run(record_of(before), &mut self.second, budget, port);
         self.run_steps += u64::from(other.steps);
-        self.compare(|| format!("run of budget {budget}"), mine, other)
+        let what = || format!("run of budget {budget}, watch {watch:02x}");
+        self.compare(what, mine, other)
     }
 
-    pub fn event(&mut self, device: u32, budget: u32) -> Reply {
+    pub fn event(&mut self, device: u32, budget: u32, watch: u16) -> Reply {
         let before = self.machine;
-        let mine = library::event(before, lend(&mut self.library), device, budget);
-        let other = second::event(record_of(before), &mut self.second, device, budget);
+        let mine = library::event(before, lend(&mut self.library), device, budget, watch);
+        let port = port_of(watch);
+        let other = second::event(record_of(before), &mut self.second, device, budget, port);
         self.run_steps += u64::from(other.steps);
-        let what = || format!("event of device {device}, budget {budget}");
+        let what = || format!("event of device {device}, budget {budget}, watch {watch:02x}");
         self.compare(what, mine, other)
+    }
+
+    /// What the next steps write, up to BRK or to so many of them; the machines stay as they are.
+    pub fn writes(&mut self, most: u32) -> Vec<PortWrite> {
+        let before = self.snapshot();
+        let mut writes = Vec::new();
+        for step in 1..=most {
+            let reply = self.step();
+            let ports = &reply.ports[..usize::from(reply.sent)];
+            writes.extend(ports.iter().map(|&port| PortWrite { step, port }));
+            if reply.answer == calls::BROKE {
+                break;
+            }
+        }
+        self.restore(&before);
+        writes
     }
 
     pub fn frame(&mut self, record: &[u8], budget: u32) -> Reply {
@@ -203,7 +233,8 @@ impl Pair {
 
     fn compare(&mut self, what: impl Fn() -> String, mine: Reply, other: second::Reply) -> Reply {
         self.calls += 1;
-        let expected = reply_of(other);
+        self.pauses += u64::from(mine.answer == calls::PAUSED);
+        let expected = reply_of(&other);
         let same = mine == expected
             && PARTS
                 .into_iter()
@@ -272,9 +303,18 @@ impl Pair {
     /// Says what was compared, also where the test runner holds back what passing tests print.
     pub fn say_total(&self, test: &str) {
         say(&format!(
-            "{test}: seed {}, {} calls, {} compared steps, {} steps in compared runs",
-            self.seed, self.calls, self.compared_steps, self.run_steps
+            "{test}: seed {}, {} calls, {} compared steps, {} steps in compared runs, {} pauses",
+            self.seed, self.calls, self.compared_steps, self.run_steps, self.pauses
         ));
+    }
+}
+
+/// What is watched: one of the ports that a program writes, any port, or a number that is none.
+pub fn any_watch(random: &mut Random, writes: &[PortWrite]) -> u16 {
+    match random.below(4) {
+        0 => random.choose(&NO_PORTS),
+        1 | 2 if !writes.is_empty() => random.choose(writes).port.into(),
+        _ => random.byte().into(),
     }
 }
 
@@ -304,8 +344,13 @@ fn record_of(machine: Machine) -> second::Record {
     }
 }
 
+/// What is watched in the C interface: a number above 255 is no port.
+fn port_of(watch: u16) -> Option<u8> {
+    u8::try_from(watch).ok()
+}
+
 /// The second machine's reply in the numbers of the C interface.
-fn reply_of(reply: second::Reply) -> Reply {
+fn reply_of(reply: &second::Reply) -> Reply {
     let (answer, number) = match reply.answer {
         Answer::Refused(number) => (calls::REFUSED, number),
         Answer::Loaded => (calls::LOADED, 0),
@@ -313,7 +358,10 @@ fn reply_of(reply: second::Reply) -> Reply {
         Answer::Broke => (calls::BROKE, 0),
         Answer::Spent => (calls::SPENT, 0),
         Answer::Ignored => (calls::IGNORED, 0),
+        Answer::Paused => (calls::PAUSED, 0),
     };
+    let mut ports = [0; 2];
+    ports[..reply.sent.len()].copy_from_slice(&reply.sent);
     Reply {
         machine: Machine {
             pc: reply.record.counter,
@@ -326,5 +374,7 @@ fn reply_of(reply: second::Reply) -> Reply {
         number,
         answer,
         verdict: reply.verdict,
+        sent: reply.sent.len() as u8,
+        ports,
     }
 }

@@ -14,21 +14,21 @@ pub enum Kind {
 pub struct Core {
     pub name: &'static str,
     pub kind: Kind,
-    pub run: fn(Machine, Buffers, u32) -> Reply,
+    pub run: fn(Machine, Buffers, u32, u16) -> Reply,
     pub frame: fn(Machine, Buffers, &[u8], u32) -> Reply,
     pub load: fn(Machine, Buffers, &[u8]) -> Reply,
 }
 
 #[cfg(peer_gcc)]
 mod gcc {
-    crate::c_call!(run = "gcc_run", number budget: u32);
+    crate::c_call!(run = "gcc_run", number budget: u32, number watch: u16);
     crate::c_call!(frame = "gcc_frame", slice record, number budget: u32);
     crate::c_call!(load = "gcc_load", slice program);
 }
 
 #[cfg(peer_clang)]
 mod clang {
-    crate::c_call!(run = "clang_run", number budget: u32);
+    crate::c_call!(run = "clang_run", number budget: u32, number watch: u16);
     crate::c_call!(frame = "clang_frame", slice record, number budget: u32);
     crate::c_call!(load = "clang_load", slice program);
 }

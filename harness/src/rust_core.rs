@@ -2,8 +2,8 @@
 //! byte.
 
 use crate::calls::{
-    refused, Buffers, Machine, Reply, BROKE, LOADED, MEMORY, PAGE, PROGRAM_LIMIT, PROGRAM_START,
-    RECORD, SPENT,
+    refused, Buffers, Machine, Reply, BROKE, LOADED, MEMORY, PAGE, PAUSED, PROGRAM_LIMIT,
+    PROGRAM_START, RECORD, SPENT, WATCH_NONE,
 };
 
 struct Core<'a> {
@@ -16,24 +16,52 @@ struct Core<'a> {
     rp: u8,
     wp_high: u8,
     rp_high: u8,
+    /// A port, or a number above 255.
+    watch: u16,
+    /// Whether the step wrote the watched port.
+    paused: bool,
 }
 
-/// The arms of the match: for each operation its byte in the eight modes.
+/// The arms of the match: for each operation its byte in the eight modes, and what follows it.
 macro_rules! operate {
     ($core:ident, $byte:expr, { $($exception:literal => $action:expr,)* },
      $($w:literal $w2:literal $r:literal $r2:literal $kw:literal $kw2:literal $kr:literal $kr2:literal
-       $operation:ident,)*) => {
+       $operation:ident $($then:block)?,)*) => {
         match $byte {
             $($exception => $action,)*
             $(
-                $w => $core.$operation::<false, false, false>(),
-                $w2 => $core.$operation::<true, false, false>(),
-                $r => $core.$operation::<false, true, false>(),
-                $r2 => $core.$operation::<true, true, false>(),
-                $kw => $core.$operation::<false, false, true>(),
-                $kw2 => $core.$operation::<true, false, true>(),
-                $kr => $core.$operation::<false, true, true>(),
-                $kr2 => $core.$operation::<true, true, true>(),
+                $w => {
+                    $core.$operation::<false, false, false>();
+                    $($then)?
+                }
+                $w2 => {
+                    $core.$operation::<true, false, false>();
+                    $($then)?
+                }
+                $r => {
+                    $core.$operation::<false, true, false>();
+                    $($then)?
+                }
+                $r2 => {
+                    $core.$operation::<true, true, false>();
+                    $($then)?
+                }
+                $kw => {
+                    $core.$operation::<false, false, true>();
+                    $($then)?
+                }
+                $kw2 => {
+                    $core.$operation::<true, false, true>();
+                    $($then)?
+                }
+                $kr => {
+                    $core.$operation::<false, true, true>();
+                    $($then)?
+                }
+                $kr2 => {
+                    $core.$operation::<true, true, true>();
+                    $($then)?
+                }
             )*
         }
     };
@@ -67,23 +95,14 @@ macro_rules! computed {
     };
 }
 
-/// The two operations on a page, which ends at FF.
+/// A load from a page, which ends at FF.
 macro_rules! page {
-    ($load:ident, $store:ident, $page:ident) => {
+    ($load:ident, $page:ident) => {
         operation!($load(core, at: pop8) {
             core.push8::<S, R>(u16::from(core.$page[usize::from(at as u8)]));
             if S {
                 let next = (at as u8).wrapping_add(1);
                 core.push8::<S, R>(u16::from(core.$page[usize::from(next)]));
-            }
-        });
-        operation!($store(core, at: pop8, a: pop) {
-            if S {
-                let next = (at as u8).wrapping_add(1);
-                core.$page[usize::from(at as u8)] = (a >> 8) as u8;
-                core.$page[usize::from(next)] = a as u8;
-            } else {
-                core.$page[usize::from(at as u8)] = a as u8;
             }
         });
     };
@@ -191,6 +210,12 @@ impl Core<'_> {
     }
 
     #[inline(always)]
+    fn send(&mut self, port: u8, byte: u16) {
+        self.device_page[usize::from(port)] = byte as u8;
+        self.paused |= u16::from(port) == self.watch;
+    }
+
+    #[inline(always)]
     fn near(&self, offset: u16) -> u16 {
         self.pc.wrapping_add_signed(i16::from(offset as u8 as i8))
     }
@@ -236,12 +261,29 @@ impl Core<'_> {
         core.go::<S>(to);
     });
     operation!(sth(core, a: pop) { core.other::<S, R>(a) });
-    page!(ldz, stz, memory);
+    page!(ldz, memory);
+    operation!(stz(core, at: pop8, a: pop) {
+        if S {
+            let next = (at as u8).wrapping_add(1);
+            core.memory[usize::from(at as u8)] = (a >> 8) as u8;
+            core.memory[usize::from(next)] = a as u8;
+        } else {
+            core.memory[usize::from(at as u8)] = a as u8;
+        }
+    });
     operation!(ldr(core, to: pop8) { core.load::<S, R>(core.near(to)) });
     operation!(str(core, to: pop8, a: pop) { core.store::<S>(core.near(to), a) });
     operation!(lda(core, to: pop16) { core.load::<S, R>(to) });
     operation!(sta(core, to: pop16, a: pop) { core.store::<S>(to, a) });
-    page!(dei, deo, device_page);
+    page!(dei, device_page);
+    operation!(deo(core, port: pop8, a: pop) {
+        if S {
+            core.send(port as u8, a >> 8);
+            core.send((port as u8).wrapping_add(1), a);
+        } else {
+            core.send(port as u8, a);
+        }
+    });
     computed!(add, push, |a, b| a.wrapping_add(b));
     computed!(sub, push, |a, b| a.wrapping_sub(b));
     computed!(mul, push, |a, b| product(a, b));
@@ -333,7 +375,13 @@ impl Core<'_> {
                 0x14 0x34 0x54 0x74 0x94 0xb4 0xd4 0xf4 lda,
                 0x15 0x35 0x55 0x75 0x95 0xb5 0xd5 0xf5 sta,
                 0x16 0x36 0x56 0x76 0x96 0xb6 0xd6 0xf6 dei,
-                0x17 0x37 0x57 0x77 0x97 0xb7 0xd7 0xf7 deo,
+                0x17 0x37 0x57 0x77 0x97 0xb7 0xd7 0xf7 deo {
+                    if core.paused {
+                        answer = PAUSED;
+                        core.raise();
+                        break;
+                    }
+                },
                 0x18 0x38 0x58 0x78 0x98 0xb8 0xd8 0xf8 add,
                 0x19 0x39 0x59 0x79 0x99 0xb9 0xd9 0xf9 sub,
                 0x1a 0x3a 0x5a 0x7a 0x9a 0xba 0xda 0xfa mul,
@@ -357,12 +405,14 @@ impl Core<'_> {
             number: 0,
             answer,
             verdict: 0,
+            sent: 0,
+            ports: [0; 2],
         }
     }
 }
 
 /// The buffers as arrays, or the number of the first that has a wrong length.
-fn core_on<'a>(machine: Machine, lent: Buffers<'a>) -> Result<Core<'a>, u8> {
+fn core_on<'a>(machine: Machine, lent: Buffers<'a>, watch: u16) -> Result<Core<'a>, u8> {
     Ok(Core {
         memory: lent.memory.try_into().map_err(|_| 1)?,
         device_page: lent.device_page.try_into().map_err(|_| 2)?,
@@ -373,20 +423,22 @@ fn core_on<'a>(machine: Machine, lent: Buffers<'a>) -> Result<Core<'a>, u8> {
         rp: machine.rp,
         wp_high: machine.wp_high,
         rp_high: machine.rp_high,
+        watch,
+        paused: false,
     })
 }
 
 const START: Machine = Machine::at(PROGRAM_START, 0, 0);
 
-pub fn run(machine: Machine, lent: Buffers, budget: u32) -> Reply {
-    match core_on(machine, lent) {
+pub fn run(machine: Machine, lent: Buffers, budget: u32, watch: u16) -> Reply {
+    match core_on(machine, lent, watch) {
         Ok(core) => core.run(budget),
         Err(number) => refused(machine, number),
     }
 }
 
 pub fn frame(machine: Machine, lent: Buffers, record: &[u8], budget: u32) -> Reply {
-    let core = match core_on(START, lent) {
+    let core = match core_on(START, lent, WATCH_NONE) {
         Ok(core) => core,
         Err(number) => return refused(machine, number),
     };
@@ -414,7 +466,7 @@ pub fn frame(machine: Machine, lent: Buffers, record: &[u8], budget: u32) -> Rep
 }
 
 pub fn load(machine: Machine, lent: Buffers, program: &[u8]) -> Reply {
-    let core = match core_on(machine, lent) {
+    let core = match core_on(machine, lent, WATCH_NONE) {
         Ok(core) => core,
         Err(number) => return refused(machine, number),
     };

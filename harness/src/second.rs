@@ -40,14 +40,17 @@ pub enum Answer {
     Broke,
     Spent,
     Ignored,
+    Paused,
 }
 
-#[derive(Clone, Copy, PartialEq, Eq, Debug)]
+#[derive(Clone, PartialEq, Eq, Debug)]
 pub struct Reply {
     pub record: Record,
     pub answer: Answer,
     pub steps: u32,
     pub verdict: u8,
+    /// The ports that a step wrote, in order (request C-18); of the other calls none.
+    pub sent: Vec<u8>,
 }
 
 #[derive(Clone, Copy)]
@@ -185,8 +188,8 @@ enum Ended {
     Broke,
 }
 
-/// One instruction, on buffers of the right lengths.
-fn execute(record: Record, parts: &mut Parts) -> (Record, Ended) {
+/// One instruction, on buffers of the right lengths, and the ports that it wrote, in order.
+fn execute(record: Record, parts: &mut Parts) -> (Record, Ended, Vec<u8>) {
     let memory = &mut parts.memory;
     let device_page = &mut parts.device_page;
     let mut working = Stack {
@@ -204,6 +207,7 @@ fn execute(record: Record, parts: &mut Parts) -> (Record, Ended) {
     let after_offset = after.wrapping_add(2);
     let mut counter = after;
     let mut ended = Ended::WentOn;
+    let mut sent = Vec::new();
 
     let size = if byte & 0x20 != 0 {
         Size::Sixteen
@@ -364,7 +368,19 @@ fn execute(record: Record, parts: &mut Parts) -> (Record, Ended) {
                 }
                 0x17 => {
                     let [value, port] = main.operands(keep, [n, eight]);
-                    write_page(device_page, n, port as u8, value);
+                    let [high, low] = value.to_be_bytes();
+                    let port = port as u8;
+                    let mut send = |port: u8, byte: u8| {
+                        device_page[usize::from(port)] = byte;
+                        sent.push(port);
+                    };
+                    match n {
+                        Size::Eight => send(port, low),
+                        Size::Sixteen => {
+                            send(port, high);
+                            send(port.wrapping_add(1), low);
+                        }
+                    }
                 }
                 // Arithmetic, low 8 or 16 bits kept: ADD, SUB, MUL, DIV, AND, ORA, EOR
                 0x18 => {
@@ -418,7 +434,7 @@ fn execute(record: Record, parts: &mut Parts) -> (Record, Ended) {
         working_high: record.working_high.max(working.pointer),
         return_high: record.return_high.max(ret.pointer),
     };
-    (next, ended)
+    (next, ended, sent)
 }
 
 // Numbered replies
@@ -450,6 +466,7 @@ fn refused(record: Record, number: u8) -> Reply {
         answer: Answer::Refused(number),
         steps: 0,
         verdict: 0,
+        sent: Vec::new(),
     }
 }
 
@@ -472,6 +489,7 @@ pub fn load(record: Record, parts: &mut Parts, program: &[u8]) -> Reply {
         answer: Answer::Loaded,
         steps: 0,
         verdict: 0,
+        sent: Vec::new(),
     }
 }
 
@@ -479,7 +497,7 @@ pub fn step(record: Record, parts: &mut Parts) -> Reply {
     if let Some(number) = wrong_buffer(parts) {
         return refused(record, number);
     }
-    let (next, ended) = execute(record, parts);
+    let (next, ended, sent) = execute(record, parts);
     Reply {
         record: next,
         answer: match ended {
@@ -488,20 +506,26 @@ pub fn step(record: Record, parts: &mut Parts) -> Reply {
         },
         steps: 1,
         verdict: 0,
+        sent,
     }
 }
 
-/// Steps until BRK or until the budget is used up.
-fn run_parts(from: Record, parts: &mut Parts, budget: u32) -> Reply {
+/// Steps until BRK, until one has written the watched port, or until the budget is used up. "Paused goes
+/// before Spent on the last unit."
+fn run_parts(from: Record, parts: &mut Parts, budget: u32, watch: Option<u8>) -> Reply {
     let mut record = from;
     let mut steps = 0;
     let mut answer = Answer::Spent;
     while steps < budget {
-        let (next, ended) = execute(record, parts);
+        let (next, ended, sent) = execute(record, parts);
         record = next;
         steps += 1;
         if ended == Ended::Broke {
             answer = Answer::Broke;
+            break;
+        }
+        if watch.is_some_and(|port| sent.contains(&port)) {
+            answer = Answer::Paused;
             break;
         }
     }
@@ -510,17 +534,24 @@ fn run_parts(from: Record, parts: &mut Parts, budget: u32) -> Reply {
         answer,
         steps,
         verdict: 0,
+        sent: Vec::new(),
     }
 }
 
-pub fn run(record: Record, parts: &mut Parts, budget: u32) -> Reply {
+pub fn run(record: Record, parts: &mut Parts, budget: u32, watch: Option<u8>) -> Reply {
     if let Some(number) = wrong_buffer(parts) {
         return refused(record, number);
     }
-    run_parts(record, parts, budget)
+    run_parts(record, parts, budget, watch)
 }
 
-pub fn event(record: Record, parts: &mut Parts, device: u32, budget: u32) -> Reply {
+pub fn event(
+    record: Record,
+    parts: &mut Parts,
+    device: u32,
+    budget: u32,
+    watch: Option<u8>,
+) -> Reply {
     if let Some(number) = wrong_buffer(parts) {
         return refused(record, number);
     }
@@ -535,15 +566,17 @@ pub fn event(record: Record, parts: &mut Parts, device: u32, budget: u32) -> Rep
             answer: Answer::Ignored,
             steps: 0,
             verdict: 0,
+            sent: Vec::new(),
         };
     }
     let from = Record {
         counter: vector,
         ..record
     };
-    run_parts(from, parts, budget)
+    run_parts(from, parts, budget, watch)
 }
 
+/// It watches nothing.
 pub fn frame(record: Record, parts: &mut Parts, frame: &[u8], budget: u32) -> Reply {
     if let Some(number) = wrong_buffer(parts) {
         return refused(record, number);
@@ -556,7 +589,7 @@ pub fn frame(record: Record, parts: &mut Parts, frame: &[u8], budget: u32) -> Re
     }
     parts.device_page[0xf2] = 0;
     parts.memory[0x0080..=0x00bf].copy_from_slice(frame);
-    let ran = run_parts(START, parts, budget);
+    let ran = run_parts(START, parts, budget, None);
     let verdict = match ran.answer {
         Answer::Broke => parts.device_page[0xf2],
         _ => 0,

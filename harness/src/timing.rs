@@ -4,7 +4,7 @@
 use std::hint::black_box;
 use std::time::Instant;
 
-use crate::calls::{Buffers, Owned, Reply, ADMITTED, SHEET_RECORD};
+use crate::calls::{Buffers, Owned, Reply, ADMITTED, SHEET_RECORD, WATCH_NONE};
 use crate::peers::{Admission, Core, Kind};
 use crate::workloads::{filter, prepared, record, Shape, Workload};
 
@@ -48,13 +48,18 @@ fn mean(numbers: impl Iterator<Item = f64>) -> f64 {
     numbers.iter().sum::<f64>() / numbers.len() as f64
 }
 
-/// Panics unless all cores end in the same state, byte for byte.
+/// Panics unless all cores end in the same state, byte for byte, after as many steps.
 pub fn check_same_end(cores: &[Core], workload: &Workload, steps: u32) {
+    let reply = same_end(cores, workload, steps, WATCH_NONE);
+    assert_eq!(reply.steps, steps, "{} goes on for ever", workload.name);
+}
+
+/// The reply of a run. Panics unless it is that of all cores, and they end in the same state.
+pub fn same_end(cores: &[Core], workload: &Workload, budget: u32, watch: u16) -> Reply {
     let mut ends = Vec::new();
     for core in cores {
         let (machine, mut owned) = prepared(&workload.program);
-        let reply = (core.run)(machine, owned.lend(), steps);
-        assert_eq!(reply.steps, steps, "{} goes on for ever", workload.name);
+        let reply = (core.run)(machine, owned.lend(), budget, watch);
         ends.push((reply, owned));
         let same = ends.last() == ends.first();
         assert!(
@@ -63,6 +68,7 @@ pub fn check_same_end(cores: &[Core], workload: &Workload, steps: u32) {
             workload.name, core.name
         );
     }
+    ends[0].0
 }
 
 /// Nanoseconds a step.
@@ -72,7 +78,7 @@ pub fn time_runs(cores: &[Core], workload: &Workload, rounds: u32, steps: u32) -
     let numbers = least_times(cores, rounds, |core| {
         owned.copy_from(&start);
         let from = Instant::now();
-        black_box((core.run)(machine, owned.lend(), steps));
+        black_box((core.run)(machine, owned.lend(), steps, WATCH_NONE));
         nanoseconds_since(from) / f64::from(steps)
     });
     Row {

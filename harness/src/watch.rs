@@ -2,7 +2,8 @@
 //! made once as a whole and once step by step from the same state; before each step counter,
 //! pointers, stacks and the filter's bytes are held against the sheet. The subroutine calls that are
 //! open are kept: they say in which routine the counter is, and where each 6C has to land. After each
-//! call the high marks are held against the greatest depths of the sheet.
+//! call the high marks are held against the greatest depths of the sheet. No port is watched here: frame
+//! calls watch nothing.
 
 use crate::admissions::shown;
 use crate::calls::{
@@ -188,11 +189,10 @@ impl Watch {
             _ => 0,
         };
         Ok(Reply {
-            machine,
             steps,
-            number: 0,
             answer,
             verdict,
+            ..refused(machine, 0)
         })
     }
 

@@ -2,10 +2,10 @@
 
 use uxn_filter_harness::assembler::assemble;
 use uxn_filter_harness::calls::{
-    Machine, Reply, BROKE, IGNORED, LOADED, MEMORY, NO_DEVICES, PROGRAM_LIMIT, PROGRAM_START,
-    RECORD, REFUSED, SPENT,
+    Machine, Reply, BROKE, IGNORED, LOADED, MEMORY, NO_DEVICES, NO_PORTS, PAUSED, PROGRAM_LIMIT,
+    PROGRAM_START, RECORD, REFUSED, SPENT, WATCH_NONE,
 };
-use uxn_filter_harness::pair::{Pair, Part};
+use uxn_filter_harness::pair::{any_watch, Pair, Part};
 use uxn_filter_harness::programs::{either, grammar_made, random_bytes};
 use uxn_filter_harness::random::{seed, Random};
 
@@ -57,8 +57,9 @@ fn events_of_every_device() {
                 // Of a number that is no device, the vector that its low bits have.
                 let port = 16 * (device as usize % 16);
                 pair.put(Part::DevicePage, port, &u16::to_be_bytes(vector));
+                let watch = any_watch(&mut random, &[]);
                 let before = pair.snapshot();
-                let reply = pair.event(device, budget);
+                let reply = pair.event(device, budget, watch);
                 if device > 15 {
                     assert_eq!((reply.answer, reply.number), (REFUSED, 6));
                     pair.assert_unchanged_since(&before);
@@ -82,6 +83,7 @@ fn events_in_a_row() {
     let mut random = Random::new(seed());
     for _ in 0..20 {
         pair.load(&grammar_made(&mut random, false));
+        let writes = pair.writes(300);
         for _ in 0..50 {
             let device = random.below(17);
             if device < 16 && random.one_in(2) {
@@ -90,10 +92,67 @@ fn events_in_a_row() {
                 pair.put(Part::DevicePage, port, &vector.to_be_bytes());
             }
             let budget = random.below(500) as u32;
-            pair.event(device as u32, budget);
+            let watch = any_watch(&mut random, &writes);
+            pair.event(device as u32, budget, watch);
         }
     }
     pair.say_total("events in a row");
+}
+
+/// A watched event pauses as a run does; `uxn_run` goes on from there, and ends as the event that is not
+/// watched does.
+#[test]
+fn events_with_a_watch() {
+    let mut pair = Pair::new(seed());
+    // Port 42, then the vector of device 1: an event in place of the run would start elsewhere.
+    let program = assemble("LIT 77 LIT 42 DEO LIT2 0103 LIT 10 DEO2 BRK");
+    for (watch, steps) in [(0x42, 3), (0x10, 6), (0x11, 6)] {
+        for budget in [steps, steps + 1, 7, 100] {
+            pair.load(&program);
+            pair.put(Part::DevicePage, 0x10, &[0x01, 0x00]);
+            let before = pair.snapshot();
+            let whole = pair.event(1, budget, WATCH_NONE);
+            let end = pair.snapshot();
+            assert_eq!(whole.steps, budget.min(7));
+            for none in NO_PORTS.into_iter().chain([0x43, 0x09]) {
+                pair.restore(&before);
+                assert_eq!(pair.event(1, budget, none), whole);
+            }
+            pair.restore(&before);
+            let paused = pair.event(1, budget, watch);
+            assert_eq!((paused.answer, paused.steps), (PAUSED, steps));
+            let rest = pair.run(budget - steps, WATCH_NONE);
+            assert_eq!(
+                (rest.answer, rest.steps + steps),
+                (whole.answer, whole.steps)
+            );
+            assert!(pair.snapshot() == end, "the event ends in another state");
+            // One unit less, and nothing is written yet.
+            pair.restore(&before);
+            assert_eq!(pair.event(1, steps - 1, watch).answer, SPENT);
+        }
+    }
+    pair.say_total("events with a watch");
+}
+
+/// "A watch changes no ... Ignored": nothing is written by an event that is not made, nor by the host.
+#[test]
+fn ignored_events_with_a_watch() {
+    let mut pair = Pair::new(seed());
+    let mut random = Random::new(seed());
+    for device in 0..16 {
+        for watch in (0..256).chain(NO_PORTS) {
+            if watch % 64 == 0 {
+                pair.make_dirty(&mut random);
+            }
+            pair.put(Part::DevicePage, 16 * device, &[0, 0]);
+            let before = pair.snapshot();
+            let reply = pair.event(device as u32, 100, watch);
+            assert_eq!((reply.answer, reply.steps), (IGNORED, 0));
+            pair.assert_unchanged_since(&before);
+        }
+    }
+    pair.say_total("ignored events with a watch");
 }
 
 fn marks(reply: Reply) -> (u8, u8) {
@@ -109,24 +168,24 @@ fn high_marks_from_call_to_call() {
     // more on the return stack.
     let program = assemble("LIT 01 LIT2 0203 STH2 BRK LITr 01 BRK");
     pair.load(&program);
-    assert_eq!(marks(pair.run(10)), (3, 2));
+    assert_eq!(marks(pair.run(10, WATCH_NONE)), (3, 2));
     // A load and a frame begin anew, with no step too.
     assert_eq!(marks(pair.load(&program)), (0, 0));
-    pair.run(10);
+    pair.run(10, WATCH_NONE);
     assert_eq!(marks(pair.frame(&record, 0)), (0, 0));
     assert_eq!(marks(pair.frame(&record, 1)), (1, 0));
     assert_eq!(marks(pair.frame(&record, 2)), (3, 0));
     assert_eq!(marks(pair.frame(&record, 10)), (3, 2));
     // An event goes on: it keeps them and raises them; ignored it leaves them.
     pair.put(Part::DevicePage, 0x10, &[0x01, 0x07]);
-    assert_eq!(marks(pair.event(1, 0)), (3, 2));
-    assert_eq!(marks(pair.event(1, 10)), (3, 3));
-    assert_eq!(pair.event(2, 10).answer, IGNORED);
-    assert_eq!(marks(pair.event(2, 10)), (3, 3));
+    assert_eq!(marks(pair.event(1, 0, WATCH_NONE)), (3, 2));
+    assert_eq!(marks(pair.event(1, 10, WATCH_NONE)), (3, 3));
+    assert_eq!(pair.event(2, 10, WATCH_NONE).answer, IGNORED);
+    assert_eq!(marks(pair.event(2, 10, WATCH_NONE)), (3, 3));
     // So does a step after it, and a refusal of any call leaves them.
     for refusal in [
         pair.load(&[]),
-        pair.event(16, 10),
+        pair.event(16, 10, WATCH_NONE),
         pair.frame(&record[1..], 10),
         pair.frame(&[0xff; RECORD], 10),
     ] {
@@ -159,6 +218,10 @@ fn high_marks_of_one_step() {
         ("POPr", 20, 10, (15, 5), (20, 9)),
         ("STH", 20, 10, (15, 5), (19, 11)),
         ("STHr", 20, 10, (15, 5), (21, 9)),
+        // A step that pauses a run raises them too.
+        ("DEOk", 9, 200, (3, 100), (9, 200)),
+        ("DEO2", 9, 8, (3, 2), (6, 8)),
+        ("DEOkr", 9, 200, (3, 100), (9, 200)),
     ] {
         let from = Machine {
             wp_high: high.0,
@@ -167,10 +230,16 @@ fn high_marks_of_one_step() {
         };
         pair.load(&assemble(text));
         pair.machine = from;
-        assert_eq!(marks(pair.run(0)), high, "{text}, no step");
+        assert_eq!(marks(pair.run(0, WATCH_NONE)), high, "{text}, no step");
         assert_eq!(marks(pair.step()), after, "{text}");
-        pair.machine = from;
-        assert_eq!(marks(pair.run(1)), after, "{text}, a run of one step");
+        // The stacks are zero, so that port 00 is the one that is written.
+        for watch in [WATCH_NONE, 0x00] {
+            pair.machine = from;
+            let reply = pair.run(1, watch);
+            assert_eq!(marks(reply), after, "{text}, a run of one step");
+            let pauses = watch == 0x00 && text.starts_with("DEO");
+            assert_eq!(reply.answer == PAUSED, pauses, "{text}, watch {watch}");
+        }
     }
     pair.say_total("high marks of one step");
 }
@@ -275,6 +344,39 @@ fn verdicts() {
     pair.load(&assemble("BRK"));
     assert_eq!(pair.frame(&record, 10).verdict, 0);
     pair.say_total("frames, verdicts");
+}
+
+/// A program that writes every port, by DEO and by DEO2. A run of it pauses at each; a frame never does,
+/// and its reply names no port. That the host writes port F2 is no step's write.
+#[test]
+fn frames_watch_nothing() {
+    let mut pair = Pair::new(seed());
+    let record = [0; RECORD];
+    let program = assemble(
+        "LIT 00 @again DUP LIT 77 OVR DEO LIT2 7879 ROT DEO2 INC DUP JCI =again LIT f2 DEO BRK",
+    );
+    pair.load(&program);
+    let whole = pair.frame(&record, u32::MAX);
+    assert_eq!((whole.answer, whole.verdict), (BROKE, 0));
+    let end = pair.snapshot();
+    for watch in 0..256 {
+        pair.frame(&record, 0);
+        assert_eq!(pair.run(u32::MAX, watch).answer, PAUSED);
+    }
+    for budget in 0..whole.steps {
+        let reply = pair.frame(&record, budget);
+        let answer = (reply.answer, reply.steps, reply.verdict);
+        assert_eq!(answer, (SPENT, budget, 0));
+        assert_eq!((reply.sent, reply.ports), (0, [0, 0]));
+    }
+    assert_eq!(pair.frame(&record, whole.steps), whole);
+    assert!(pair.snapshot() == end, "the frame ends in another state");
+
+    pair.load(&assemble("BRK"));
+    pair.put(Part::DevicePage, 0xf2, &[0x77]);
+    assert_eq!(pair.frame(&record, 0).answer, SPENT);
+    assert_eq!(pair.run(1, 0xf2).answer, BROKE);
+    pair.say_total("frames watch nothing");
 }
 
 /// Frames good and bad one after the other on a machine that goes on.

@@ -1,6 +1,6 @@
 //! The worked cases of document 01, run on both machines after a load.
 
-use uxn_filter_harness::calls::{BROKE, LOADED, RECORD, REFUSED, SPENT};
+use uxn_filter_harness::calls::{BROKE, LOADED, RECORD, REFUSED, SPENT, WATCH_NONE};
 use uxn_filter_harness::pair::{Pair, Part};
 
 const ENOUGH: u32 = 10_000;
@@ -93,7 +93,7 @@ fn programs_that_end_at_brk() {
     ];
     for case in cases {
         let mut pair = loaded(case.program);
-        let reply = pair.run(ENOUGH);
+        let reply = pair.run(ENOUGH, WATCH_NONE);
         let program = case.program;
         assert_eq!(reply.answer, BROKE, "{program:02x?}");
         assert_eq!(reply.steps, case.steps, "{program:02x?}");
@@ -108,25 +108,25 @@ fn programs_that_end_at_brk() {
 #[test]
 fn a_popped_byte_stays() {
     let mut pair = loaded(&[0x80, 0x05, 0x80, 0x03, 0x18, 0x00]);
-    pair.run(ENOUGH);
+    pair.run(ENOUGH, WATCH_NONE);
     assert_eq!(pair.bytes(Part::Working)[1], 0x03);
 }
 
 #[test]
 fn a_pop_of_the_empty_stack_goes_round() {
     let mut pair = loaded(&[0x02, 0x00]);
-    assert_eq!(pair.run(ENOUGH).machine.wp, 255);
+    assert_eq!(pair.run(ENOUGH, WATCH_NONE).machine.wp, 255);
 }
 
 #[test]
 fn programs_that_spend_their_budget() {
     let mut pair = loaded(&[0x80, 0xfd, 0x0c]);
-    let reply = pair.run(5);
+    let reply = pair.run(5, WATCH_NONE);
     assert_eq!((reply.answer, reply.steps), (SPENT, 5));
     assert_eq!((reply.machine.pc, reply.machine.wp), (0x0102, 1));
 
     let mut pair = loaded(&[0x40, 0xff, 0xfd]);
-    let reply = pair.run(7);
+    let reply = pair.run(7, WATCH_NONE);
     assert_eq!((reply.answer, reply.steps), (SPENT, 7));
     assert_eq!(reply.machine.pc, 0x0100);
 }
@@ -137,7 +137,7 @@ fn stacks_filled_to_255_and_256_bytes() {
         let mut program = [0x80, 0x00].repeat(count);
         program.push(0x00);
         let mut pair = loaded(&program);
-        let reply = pair.run(ENOUGH);
+        let reply = pair.run(ENOUGH, WATCH_NONE);
         assert_eq!((reply.answer, reply.machine.wp), (BROKE, pointer));
         assert_eq!(reply.steps, count as u32 + 1);
     }

@@ -7,13 +7,16 @@
 #include "uxn_filter.h"
 
 _Static_assert(sizeof(uxn_machine) == 6, "the machine record");
-_Static_assert(sizeof(uxn_reply) == 16, "the reply");
+_Static_assert(sizeof(uxn_reply) == 20, "the reply");
 _Static_assert(offsetof(uxn_machine, wp_high) == 4, "high mark of the working stack");
 _Static_assert(offsetof(uxn_machine, rp_high) == 5, "high mark of the return stack");
 _Static_assert(offsetof(uxn_reply, steps) == 8, "steps");
 _Static_assert(offsetof(uxn_reply, number) == 12, "number");
 _Static_assert(offsetof(uxn_reply, answer) == 13, "answer");
 _Static_assert(offsetof(uxn_reply, verdict) == 14, "verdict");
+_Static_assert(offsetof(uxn_reply, sent) == 15, "how many ports");
+_Static_assert(offsetof(uxn_reply, ports) == 16, "which ports");
+_Static_assert(UXN_PAUSED == 6 && UXN_WATCH_NONE == 256, "the watch");
 _Static_assert(sizeof(uxn_written) == 16, "what was written");
 _Static_assert(offsetof(uxn_written, line) == 8, "line");
 _Static_assert(offsetof(uxn_written, number) == 12, "number of a refused write");
@@ -32,8 +35,9 @@ static uint8_t memory[65536], device_page[256], working[256], ret[256];
 
 static void say(const char *call, uxn_reply r)
 {
-    printf("%s: answer %u, number %u, steps %u, verdict %u, pc %04x, wp %u, rp %u, high %u %u\n", call, r.answer, r.number,
-           (unsigned)r.steps, r.verdict, r.machine.pc, r.machine.wp, r.machine.rp, r.machine.wp_high, r.machine.rp_high);
+    printf("%s: answer %u, number %u, steps %u, verdict %u, sent %u %02x %02x, pc %04x, wp %u, rp %u, high %u %u\n", call, r.answer,
+           r.number, (unsigned)r.steps, r.verdict, r.sent, r.ports[0], r.ports[1], r.machine.pc, r.machine.wp, r.machine.rp,
+           r.machine.wp_high, r.machine.rp_high);
 }
 
 static void say_sheet(const uint8_t *program, size_t length, uint8_t *sheet, size_t sheet_length)
@@ -76,6 +80,8 @@ int main(void)
 {
     /* port F2 gets 1, then BRK: every frame is passed */
     static const uint8_t program[] = {0x80, 0x01, 0x80, 0xf2, 0x17, 0x00};
+    /* ports FF and 00 get 1 and 2, in one instruction */
+    static const uint8_t two[] = {0xa0, 0x01, 0x02, 0x80, 0xff, 0x37, 0x00};
     /* POP of the empty stack */
     static const uint8_t refused[] = {0x02, 0x00};
     /* a call of the routine at 0104, BRK after it, JMP2r */
@@ -102,24 +108,45 @@ int main(void)
     say("load", reply);
     reply = uxn_step(reply.machine, BUFFERS);
     say("step", reply);
-    reply = uxn_run(reply.machine, BUFFERS, 2);
+    reply = uxn_run(reply.machine, BUFFERS, 2, UXN_WATCH_NONE);
     say("run", reply);
+    reply = uxn_load(reply.machine, BUFFERS, program, sizeof program);
+    reply = uxn_run(reply.machine, BUFFERS, 2, 0xf2);
+    say("run, watched", reply);
+    reply = uxn_step(reply.machine, BUFFERS);
+    say("step", reply);
+    /* DEO2 at FF */
+    reply = uxn_load(reply.machine, BUFFERS, two, sizeof two);
+    reply = uxn_run(reply.machine, BUFFERS, 2, 0x00);
+    reply = uxn_step(reply.machine, BUFFERS);
+    say("step", reply);
+    reply = uxn_load(reply.machine, BUFFERS, two, sizeof two);
+    reply = uxn_run(reply.machine, BUFFERS, 3, 0x00);
+    say("run, watched", reply);
+    reply = uxn_run(reply.machine, BUFFERS, 100, 0x00);
+    say("run, watched", reply);
+    reply = uxn_load(reply.machine, BUFFERS, program, sizeof program);
     reply = uxn_frame(reply.machine, BUFFERS, record, sizeof record, 100);
     say("frame", reply);
-    reply = uxn_event(reply.machine, BUFFERS, 15, 100);
+    reply = uxn_event(reply.machine, BUFFERS, 15, 100, 0xf2);
     say("event", reply);
     device_page[0xf0] = 0x01;
-    reply = uxn_event(reply.machine, BUFFERS, 15, 100);
+    reply = uxn_event(reply.machine, BUFFERS, 15, 100, 0x1f2);
     say("event", reply);
+    reply = uxn_event(reply.machine, BUFFERS, 15, 100, 0xf2);
+    say("event, watched", reply);
+    printf("paused: %d\n", reply.answer == UXN_PAUSED);
+    reply = uxn_run(reply.machine, BUFFERS, 100 - reply.steps, UXN_WATCH_NONE);
+    say("run", reply);
     reply = uxn_frame(reply.machine, BUFFERS, record, sizeof record - 1, 100);
     say("frame", reply);
     /* the vector of device 3 is not 0 either: a number that C cuts to its low byte would be that device */
     device_page[0x30] = 0x01;
     for (n = 0; n < sizeof wrong / sizeof *wrong; n++) {
-        reply = uxn_event(reply.machine, BUFFERS, wrong[n], 100);
+        reply = uxn_event(reply.machine, BUFFERS, wrong[n], 100, UXN_WATCH_NONE);
         printf("device %lu: answer %u, number %u\n", (unsigned long)wrong[n], reply.answer, reply.number);
     }
-    printf("device -1: %d\n", uxn_event(reply.machine, BUFFERS, -1, 100).number == UXN_DEVICE_NUMBER);
+    printf("device -1: %d\n", uxn_event(reply.machine, BUFFERS, -1, 100, UXN_WATCH_NONE).number == UXN_DEVICE_NUMBER);
 
     say_sheet(program, sizeof program, sheet, sizeof sheet);
     say_sheet(program, sizeof program, sheet, 24);

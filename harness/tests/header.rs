@@ -21,13 +21,21 @@ fn folder(test: &str) -> PathBuf {
 // The calls
 
 const SAYS: &str = "\
-load: answer 1, number 0, steps 0, verdict 0, pc 0100, wp 0, rp 0, high 0 0
-step: answer 2, number 0, steps 1, verdict 0, pc 0102, wp 1, rp 0, high 1 0
-run: answer 4, number 0, steps 2, verdict 0, pc 0105, wp 0, rp 0, high 2 0
-frame: answer 3, number 0, steps 4, verdict 1, pc 0106, wp 0, rp 0, high 2 0
-event: answer 5, number 0, steps 0, verdict 0, pc 0106, wp 0, rp 0, high 2 0
-event: answer 3, number 0, steps 4, verdict 0, pc 0106, wp 0, rp 0, high 2 0
-frame: answer 0, number 7, steps 0, verdict 0, pc 0106, wp 0, rp 0, high 2 0
+load: answer 1, number 0, steps 0, verdict 0, sent 0 00 00, pc 0100, wp 0, rp 0, high 0 0
+step: answer 2, number 0, steps 1, verdict 0, sent 0 00 00, pc 0102, wp 1, rp 0, high 1 0
+run: answer 4, number 0, steps 2, verdict 0, sent 0 00 00, pc 0105, wp 0, rp 0, high 2 0
+run, watched: answer 4, number 0, steps 2, verdict 0, sent 0 00 00, pc 0104, wp 2, rp 0, high 2 0
+step: answer 2, number 0, steps 1, verdict 0, sent 1 f2 00, pc 0105, wp 0, rp 0, high 2 0
+step: answer 2, number 0, steps 1, verdict 0, sent 2 ff 00, pc 0106, wp 0, rp 0, high 3 0
+run, watched: answer 6, number 0, steps 3, verdict 0, sent 0 00 00, pc 0106, wp 0, rp 0, high 3 0
+run, watched: answer 3, number 0, steps 1, verdict 0, sent 0 00 00, pc 0107, wp 0, rp 0, high 3 0
+frame: answer 3, number 0, steps 4, verdict 1, sent 0 00 00, pc 0106, wp 0, rp 0, high 2 0
+event: answer 5, number 0, steps 0, verdict 0, sent 0 00 00, pc 0106, wp 0, rp 0, high 2 0
+event: answer 3, number 0, steps 4, verdict 0, sent 0 00 00, pc 0106, wp 0, rp 0, high 2 0
+event, watched: answer 6, number 0, steps 3, verdict 0, sent 0 00 00, pc 0105, wp 0, rp 0, high 2 0
+paused: 1
+run: answer 3, number 0, steps 1, verdict 0, sent 0 00 00, pc 0106, wp 0, rp 0, high 2 0
+frame: answer 0, number 7, steps 0, verdict 0, sent 0 00 00, pc 0106, wp 0, rp 0, high 2 0
 device 16: answer 0, number 6
 device 255: answer 0, number 6
 device 256: answer 0, number 6
@@ -87,17 +95,19 @@ const BUILDS: [(&str, &[&str]); 4] = [
 ];
 
 /// Every answer of every call on a machine that has its buffers.
-const MET: [&str; 14] = [
+const MET: [&str; 16] = [
     "load: answer 0, number 5",
     "load: answer 1, number 0",
     "step: answer 2, number 0",
     "step: answer 3, number 0",
     "run: answer 3, number 0",
     "run: answer 4, number 0",
+    "run: answer 6, number 0",
     "event: answer 0, number 6",
     "event: answer 3, number 0",
     "event: answer 4, number 0",
     "event: answer 5, number 0",
+    "event: answer 6, number 0",
     "frame: answer 0, number 7",
     "frame: answer 0, number 8",
     "frame: answer 3, number 0",
@@ -143,7 +153,7 @@ fn the_struct_passes_on() {
 }
 
 /// What may be wrong in the header's struct and functions, as replacements; each has to be seen.
-const WRONG: [(&str, &str); 9] = [
+const WRONG: [(&str, &str); 13] = [
     ("host->machine = reply.machine;", "(void)host;"),
     ("uint8_t ret[256]", "uint8_t ret[255]"),
     ("sizeof (host)->device_page", "sizeof (host)->memory"),
@@ -155,14 +165,33 @@ const WRONG: [(&str, &str); 9] = [
         "program, program_length));",
         "program, program_length / 2));",
     ),
-    ("GIVES(host), budget)", "GIVES(host), budget + 1)"),
     (
-        "GIVES(host), device, budget)",
-        "GIVES(host), budget, device)",
+        "GIVES(host), budget, watch)",
+        "GIVES(host), budget + 1, watch)",
     ),
     (
-        "GIVES(host), device, budget)",
-        "GIVES(host), device % 256, budget)",
+        "GIVES(host), budget, watch)",
+        "GIVES(host), budget, watch % 256)",
+    ),
+    (
+        "GIVES(host), budget, watch)",
+        "GIVES(host), budget, watch | 256)",
+    ),
+    (
+        "GIVES(host), device, budget, watch)",
+        "GIVES(host), budget, device, watch)",
+    ),
+    (
+        "GIVES(host), device, budget, watch)",
+        "GIVES(host), device % 256, budget, watch)",
+    ),
+    (
+        "GIVES(host), device, budget, watch)",
+        "GIVES(host), device, budget, watch % 256)",
+    ),
+    (
+        "GIVES(host), device, budget, watch)",
+        "GIVES(host), device, budget, watch | 256)",
     ),
     (
         "record, record_length, budget)",
@@ -228,7 +257,7 @@ fn the_calls_are_declared_in_c90_too() {
 // The version
 
 /// The version, and a sum over the header without comments and white space as it is in that version.
-const INTERFACE: (&str, u64) = ("5", 12_642_272_532_076_717_367);
+const INTERFACE: (&str, u64) = ("6", 7_810_482_601_851_926_375);
 
 /// The header without comments and white space.
 fn bare(header: &str) -> String {

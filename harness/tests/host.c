@@ -19,7 +19,7 @@ static uxn_host host;
 #define BUFFERS memory, sizeof memory, device_page, sizeof device_page, working, sizeof working, ret, sizeof ret
 
 /* By call, answer and number. */
-static unsigned met[CALLS][6][12];
+static unsigned met[CALLS][7][12];
 
 /* Xorshift: the same numbers in every run. */
 static uint32_t below(uint32_t end)
@@ -41,7 +41,8 @@ static int same_record(uxn_machine one, uxn_machine other)
 static int same_reply(uxn_reply one, uxn_reply other)
 {
     return same_record(one.machine, other.machine) && one.steps == other.steps && one.number == other.number &&
-           one.answer == other.answer && one.verdict == other.verdict;
+           one.answer == other.answer && one.verdict == other.verdict && one.sent == other.sent &&
+           one.ports[0] == other.ports[0] && one.ports[1] == other.ports[1];
 }
 
 /* What differs between the two, or a null pointer. */
@@ -62,13 +63,13 @@ static const char *difference(uxn_reply raw, uxn_reply through)
     return NULL;
 }
 
-/* Any bytes, half of them LIT, BRK at a few; 0 is BRK too. */
+/* Any bytes, half of them LIT, BRK at a few; 0 is BRK too. One in 16 is a DEO, in any mode. */
 static void fill(uint8_t *bytes, size_t length)
 {
     size_t place;
 
     for (place = 0; place < length; place++)
-        bytes[place] = below(2) ? 0x80 : (uint8_t)below(256);
+        bytes[place] = (uint8_t)(below(2) ? 0x80 : below(8) ? below(256) : 0x17 + 0x20 * below(8));
 }
 
 /* The same byte into both. */
@@ -90,15 +91,29 @@ static uxn_reply load(uxn_reply *through)
     return uxn_load(machine, BUFFERS, program, length);
 }
 
+/* What is watched: nothing, by any number for it, or a port. Most bytes on the stacks are 80. */
+static uint16_t watched(void)
+{
+    switch (below(4)) {
+    case 0:
+        return (uint16_t)(UXN_WATCH_NONE + below(2) * 0x80);
+    case 1:
+        return (uint16_t)below(65536);
+    default:
+        return (uint16_t)(0x80 + below(2));
+    }
+}
+
 static uxn_reply event(uxn_reply *through)
 {
     static const uint32_t wrong[] = {16, 255, 256, 259, 65536 + 3, UINT32_MAX};
     uint32_t device = below(4) ? below(16) : wrong[below(6)], budget = below(200);
     uint8_t high = below(2) ? (uint8_t)below(3) : 0;
+    uint16_t watch = watched();
 
     device_page[16 * (device % 16)] = host.device_page[16 * (device % 16)] = high;
-    *through = uxn_host_event(&host, device, budget);
-    return uxn_event(machine, BUFFERS, device, budget);
+    *through = uxn_host_event(&host, device, budget, watch);
+    return uxn_event(machine, BUFFERS, device, budget, watch);
 }
 
 static uxn_reply frame(uxn_reply *through)
@@ -116,6 +131,7 @@ int main(void)
 {
     uxn_reply raw, through;
     uint32_t budget;
+    uint16_t watch;
     unsigned turn, call, answer, number;
     const char *differs;
 
@@ -136,8 +152,9 @@ int main(void)
             break;
         case RUN:
             budget = below(200);
-            through = uxn_host_run(&host, budget);
-            raw = uxn_run(machine, BUFFERS, budget);
+            watch = watched();
+            through = uxn_host_run(&host, budget, watch);
+            raw = uxn_run(machine, BUFFERS, budget, watch);
             break;
         case EVENT:
             raw = event(&through);
@@ -155,7 +172,7 @@ int main(void)
         met[call][raw.answer][raw.number]++;
     }
     for (call = 0; call < CALLS; call++)
-        for (answer = 0; answer < 6; answer++)
+        for (answer = 0; answer < 7; answer++)
             for (number = 0; number < 12; number++)
                 if (met[call][answer][number] != 0)
                     printf("%s: answer %u, number %u: %u\n", names[call], answer, number, met[call][answer][number]);

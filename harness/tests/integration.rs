@@ -10,7 +10,7 @@ use std::thread;
 
 use uxn_filter_harness::calls::{
     Machine, Owned, Reply, ADMITTED, ADMIT_LIMIT, LOADED, PROGRAM_START, RECORD, SHEET_RECORD,
-    SPENT,
+    SPENT, WATCH_NONE,
 };
 use uxn_filter_harness::compiled::{build_c, library, printed, repository};
 use uxn_filter_harness::disassembly::{self, called, Instruction};
@@ -139,6 +139,7 @@ fn the_programs_print_what_the_page_says() {
     for (language, name, printed, compiler) in [
         ("c", "filter.c", "", gcc),
         ("rust", "filter.rs", "", rustc),
+        ("c", "send.c", "send.c", gcc),
         ("c", "calls.c", "calls.c", gcc),
         ("c", "why.c", "why.c", gcc),
         ("c", "sheets.c", "sheets.c", gcc),
@@ -149,7 +150,7 @@ fn the_programs_print_what_the_page_says() {
         let commands = &block(&blocks, "sh", name).text;
         assert!(commands.starts_with(compiler), "{commands:?}");
     }
-    assert_eq!(blocks.len(), 14, "a block that is not tested");
+    assert_eq!(blocks.len(), 17, "a block that is not tested");
 }
 
 // Constants and layout
@@ -176,6 +177,7 @@ fn the_page_has_every_constant_with_its_value() {
     let mut said = vec![("UXN_FILTER_VERSION".to_owned(), version)];
     for head in [
         "| answer | value | of | meaning |",
+        "| watch | value | of | meaning |",
         "| number | value | when | look here |",
         "| rule | value | the instruction at `here` | `count` | `next` | `other` |",
     ] {
@@ -516,7 +518,7 @@ fn calls_set_what_the_page_says() {
     assert!(own == expected, "frame");
 
     let mut own = dirty.clone();
-    let from_vector = calls::event(given, own.lend(), 3, 0);
+    let from_vector = calls::event(given, own.lend(), 3, 0, WATCH_NONE);
     let at_vector = Machine {
         pc: 0x4567,
         ..given
@@ -525,7 +527,7 @@ fn calls_set_what_the_page_says() {
         (from_vector.answer, from_vector.machine),
         (SPENT, at_vector)
     );
-    let ran = calls::run(given, own.lend(), 0);
+    let ran = calls::run(given, own.lend(), 0, WATCH_NONE);
     assert_eq!((ran.answer, ran.machine), (SPENT, given));
     assert!(own == dirty, "event and run");
 }

@@ -2,9 +2,14 @@
 //! other wrong thing. The smallest number that applies is given and no lent byte changes; the guard
 //! bytes beside each buffer are compared with every call.
 
-use uxn_filter_harness::calls::{Reply, MEMORY, NO_DEVICES, PROGRAM_LIMIT, RECORD, REFUSED};
+use uxn_filter_harness::calls::{
+    refused, Reply, MEMORY, NO_DEVICES, PROGRAM_LIMIT, RECORD, WATCH_NONE,
+};
 use uxn_filter_harness::pair::{Pair, Part, RIGHT_LENGTHS};
 use uxn_filter_harness::random::{seed, Random};
+
+/// The first port, the last one, and none.
+const WATCHES: [u16; 3] = [0x00, 0xff, WATCH_NONE];
 
 /// The right length, none, one less, one more.
 fn lengths_of(right: usize) -> [usize; 4] {
@@ -40,14 +45,8 @@ fn with_wrong_buffers_prepared(
         let before = pair.snapshot();
         let machine = pair.machine;
         let reply = call(&mut pair);
-        let refused = Reply {
-            machine,
-            steps: 0,
-            number: expected,
-            answer: REFUSED,
-            verdict: 0,
-        };
-        assert_eq!(reply, refused, "{name}, buffers of {lengths:?} bytes");
+        let expected = refused(machine, expected);
+        assert_eq!(reply, expected, "{name}, buffers of {lengths:?} bytes");
         pair.assert_unchanged_since(&before);
     }
 }
@@ -60,7 +59,9 @@ fn steps() {
 #[test]
 fn runs() {
     for budget in [0, 1, 1_000] {
-        with_wrong_buffers("run", None, |pair| pair.run(budget));
+        for watch in WATCHES {
+            with_wrong_buffers("run", None, |pair| pair.run(budget, watch));
+        }
     }
 }
 
@@ -78,13 +79,13 @@ fn loads() {
     }
 }
 
-/// Devices right and wrong, vectors not zero and zero.
+/// Devices right and wrong, vectors not zero and zero; a watch changes no refusal.
 #[test]
 fn events() {
     let refused = NO_DEVICES.map(|device| (device, Some(6)));
     for (device, number) in [(0, None), (15, None)].into_iter().chain(refused) {
-        for budget in [0, 1_000] {
-            let call = |pair: &mut Pair| pair.event(device, budget);
+        for (budget, watch) in [0, 1_000].into_iter().zip(WATCHES) {
+            let call = |pair: &mut Pair| pair.event(device, budget, watch);
             with_wrong_buffers("event", number, call);
             let clear = |pair: &mut Pair| {
                 let zeros = vec![0; pair.bytes(Part::DevicePage).len()];

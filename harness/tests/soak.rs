@@ -2,18 +2,20 @@
 //! without it the soak is a few seconds long.
 
 use uxn_filter_harness::admissions::Admissions;
-use uxn_filter_harness::calls::{ADMIT_LIMIT, BROKE, PROGRAM_LIMIT, RECORD, SHEET_RECORD};
+use uxn_filter_harness::calls::{ADMIT_LIMIT, PROGRAM_LIMIT, RECORD, SHEET_RECORD};
 use uxn_filter_harness::filters::{any, any_length, filter};
-use uxn_filter_harness::pair::{Pair, Part};
+use uxn_filter_harness::pair::{any_watch, Pair, Part};
 use uxn_filter_harness::programs::{grammar_made, random_bytes};
 use uxn_filter_harness::random::Random;
 use uxn_filter_harness::soak::rounds;
 use uxn_filter_harness::watch::{any_record, Watch, Watched};
 
-/// How many steps and admissions were compared, and steps watched, with the returns among them.
+/// How many steps and admissions were compared, runs and events paused, and steps watched, with the
+/// returns among them.
 #[derive(Default)]
 struct Total {
     steps: u64,
+    pauses: u64,
     admissions: u64,
     watched: u64,
     returns: u64,
@@ -23,13 +25,14 @@ impl Total {
     fn text(&self) -> String {
         let Total {
             steps,
+            pauses,
             admissions,
             watched,
             returns,
         } = self;
         format!(
-            "{steps} compared steps, {admissions} compared admissions, {watched} watched steps with \
-             {returns} returns"
+            "{steps} compared steps, {pauses} pauses, {admissions} compared admissions, {watched} watched \
+             steps with {returns} returns"
         )
     }
 }
@@ -37,7 +40,9 @@ impl Total {
 #[test]
 fn soak() {
     let round = |seed, total: &mut Total| {
-        total.steps += machine_round(seed);
+        let pair = machine_round(seed);
+        total.steps += pair.compared_steps;
+        total.pauses += pair.pauses;
         total.admissions += admission_round(seed);
         let watch = watched_round(seed);
         total.watched += watch.steps;
@@ -46,9 +51,8 @@ fn soak() {
     rounds("soak", round, Total::text);
 }
 
-/// Some thousands of compared steps, whose number it returns, and some compared calls of every
-/// kind.
-fn machine_round(seed: u64) -> u64 {
+/// Some thousands of compared steps, and some compared calls of every kind.
+fn machine_round(seed: u64) -> Pair {
     let mut pair = Pair::new(seed);
     let mut random = Random::new(seed);
 
@@ -71,14 +75,13 @@ fn machine_round(seed: u64) -> u64 {
     let length = 1 + random.below(PROGRAM_LIMIT);
     let any = random_bytes(&mut random, length, true);
     pair.load(&any);
-    pair.run(10_000);
+    let writes = pair.writes(100);
+    let watch = any_watch(&mut random, &writes);
+    pair.run(10_000, watch);
 
     let program = grammar_made(&mut random, seed.is_multiple_of(2));
     pair.load(&program);
-    let mut steps = 0;
-    while steps < 2_000 && pair.step().answer != BROKE {
-        steps += 1;
-    }
+    let writes = pair.writes(2_000);
     for _ in 0..10 {
         let mut record = [0; RECORD];
         let length = random.below(RECORD + 1);
@@ -92,11 +95,13 @@ fn machine_round(seed: u64) -> u64 {
             random.below(20) as u32
         };
         let budget = random.below(300) as u32;
-        pair.event(device, budget);
+        let watch = any_watch(&mut random, &writes);
+        pair.event(device, budget, watch);
         let budget = random.below(1_000) as u32;
-        pair.run(budget);
+        let watch = any_watch(&mut random, &writes);
+        pair.run(budget, watch);
     }
-    pair.compared_steps
+    pair
 }
 
 /// Programs of every kind into sheets, most of the right length; returns their number.

@@ -5,12 +5,13 @@
 use std::path::Path;
 use std::sync::{Mutex, PoisonError};
 
+use uxn_filter_harness::calls::{NO_PORTS, PAUSED, SPENT};
 use uxn_filter_harness::counting::{count_admissions, count_runs};
 use uxn_filter_harness::pair::say;
 use uxn_filter_harness::peers::{admissions, cores};
 use uxn_filter_harness::timing::{
-    check_same_end, greatest_admission_ratio, mean_admission_ratio, mean_ratio, time_admissions,
-    time_runs, Growth, Row, ADMITTED_LENGTHS,
+    check_same_end, greatest_admission_ratio, mean_admission_ratio, mean_ratio, same_end,
+    time_admissions, time_runs, Growth, Row, ADMITTED_LENGTHS,
 };
 use uxn_filter_harness::workloads::{workloads, SHAPES};
 
@@ -83,6 +84,33 @@ fn steps_beside_the_best_c_peer() {
     }
     judged.hold("steps, mean", mean_ratio(&cores, &counted), STEP_BAR);
     judged.end();
+}
+
+/// What is measured side by side does the same work: watched too, all cores answer the same.
+#[test]
+fn the_peers_pause_as_the_library_does() {
+    let _alone = ALONE.lock().unwrap_or_else(PoisonError::into_inner);
+    let cores = cores();
+    let mut paused = Vec::new();
+    for workload in &workloads() {
+        for watch in (0..256).chain(NO_PORTS) {
+            let reply = same_end(&cores, workload, 2_000, watch);
+            if reply.answer == PAUSED {
+                // On the last unit too, and not before it.
+                let last = same_end(&cores, workload, reply.steps, watch);
+                let before = same_end(&cores, workload, reply.steps - 1, watch);
+                assert_eq!((last.answer, before.answer), (PAUSED, SPENT));
+                paused.push((workload.name, watch));
+            }
+        }
+    }
+    let ports = |name, ports: &[u16]| ports.iter().map(move |&port| (name, port)).collect();
+    let expected: [Vec<(&str, u16)>; 3] = [
+        ports("ports", &[0x10, 0x11, 0x12, 0x13, 0xf2]),
+        ports("decisions", &[0xf2]),
+        ports("straight", &[0x30, 0x32, 0x33]),
+    ];
+    assert_eq!(paused, expected.concat());
 }
 
 #[test]

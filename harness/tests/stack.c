@@ -23,8 +23,8 @@ static const uxn_machine start = {0x0100, 8, 8, 0, 0};
 static void none(void) {}
 static void load(void) { uxn_load(start, BUFFERS, program, length); }
 static void step(void) { uxn_step(start, BUFFERS); }
-static void run(void) { uxn_run(start, BUFFERS, 100); }
-static void event(void) { uxn_event(start, BUFFERS, 0, 100); }
+static void run(void) { uxn_run(start, BUFFERS, 100, 0x00); }
+static void event(void) { uxn_event(start, BUFFERS, 0, 100, 0x00); }
 static void frame(void) { uxn_frame(start, BUFFERS, record, sizeof record, 100); }
 static void admit(void) { uxn_admit(program, length, sheet, 8 * length); }
 static void explain(void) { uxn_explain(program, length); }

@@ -1,6 +1,6 @@
 //! Single instructions: all 256 bytes from many states, with everything compared after each.
 
-use uxn_filter_harness::calls::Machine;
+use uxn_filter_harness::calls::{Machine, Reply, BROKE, WENT_ON};
 use uxn_filter_harness::pair::{Pair, Part};
 use uxn_filter_harness::random::{seed, Random};
 
@@ -46,7 +46,7 @@ impl States {
 
     /// One step of `byte` on random buffers, with `tops` on top of both stacks, the last one
     /// topmost.
-    fn step(&mut self, byte: u8, machine: Machine, tops: &[u8]) {
+    fn step(&mut self, byte: u8, machine: Machine, tops: &[u8]) -> Reply {
         if self.made.is_multiple_of(MEMORY_LIFE) {
             self.pair.fill_random(Part::Memory, &mut self.random);
         }
@@ -67,7 +67,7 @@ impl States {
             rp_high: self.pointer(),
             ..machine
         };
-        self.pair.step();
+        self.pair.step()
     }
 }
 
@@ -130,6 +130,27 @@ fn every_pair_of_operands() {
         }
     }
     states.pair.say_total("steps, all pairs of bytes");
+}
+
+/// DEO in any mode writes the port on top of its stack, DEO2 also the next one, which of FF is 00; no
+/// other byte writes any.
+#[test]
+fn every_byte_with_every_port() {
+    let mut states = States::new();
+    for byte in 0..=255u8 {
+        for port in 0..=255u8 {
+            let machine = Machine::at(states.counter(), states.pointer(), states.pointer());
+            let reply = states.step(byte, machine, &[port]);
+            let (sent, ports) = match byte & 0x3f {
+                0x17 => (1, [port, 0]),
+                0x37 => (2, [port, port.wrapping_add(1)]),
+                _ => (0, [0, 0]),
+            };
+            assert_eq!((reply.sent, reply.ports), (sent, ports), "byte {byte:02x}");
+            assert_eq!(reply.answer, if byte == 0 { BROKE } else { WENT_ON });
+        }
+    }
+    states.pair.say_total("steps, ports");
 }
 
 /// MUL2 of numbers of every length in bits: the least one, the greatest one and one between them.
