@@ -18,8 +18,8 @@ ghost use Rattle.blocks.specs.Frames.{wholeRecords, machineAfter, firstL
 // "with a budget of 10,000 steps a frame"
 const BUDGET: u32 = 10000;
 
-// "a record of exactly 64 bytes"
-const RECORD: usize = 64;
+// C-16: "the record becomes 128 bytes"
+const RECORD: usize = 128;
 
 // The machine record afterwards, and how many bytes of lines there are.
 pub struct Done {

@@ -49,7 +49,7 @@ pub fn load_memory(memory: &mut [u8], program: &[u8])
     fill(&mut memory[256..], program);
 }
 
-// Frame: "the record is written to memory 0080 to 00BF"; the frame area from 0080, which is 128, is handed on.
+// Frame, C-16: the record is "written to 0080 to 00FF"; the frame area from 0080, which is 128, is handed on.
 pub fn frame_memory(memory: &mut [u8], frame: &[u8])
     requires { ⌜ (length (now memory) ≡ memorySize) × (length (now frame) ≡ frameSize) ⌝ }
     ensures { λ _. ⌜ now (memory .exit) ≡ take framePlace (now (memory .entry)) ++ now (frame .entry) ++ drop (framePlace + length (now (frame .entry))) (now (memory .entry)) ⌝ }

@@ -11,7 +11,7 @@ abbrev pub blockSize : ℕ
 blockSize = 65536
 
 abbrev pub linesSize : ℕ
-linesSize = 12288
+linesSize = 6144
 
 -- some bytes came, none perhaps, behind those that waited
 abbrev pub Came : List ℕ → State → Judged → Type 0

@@ -24,10 +24,10 @@ pub struct Turn {
 }
 
 // Room for the lines of all records of a block.
-fn lines_buffer() -> [u8; 12288]
+fn lines_buffer() -> [u8; 6144]
     ensures { λ r. ⌜ linesSize ≡ length r ⌝ }
 {
-    [0; 12288]
+    [0; 6144]
 }
 
 // The file has ended, and so many bytes of it are no whole record: they have no line, and are not passed over in silence.

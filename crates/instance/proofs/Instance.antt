@@ -79,8 +79,8 @@ none = other [] (eqb-false 0 256 refl)
 pub calls : List Call
 calls =
     call own own own own (frameRecord 3 (0x05 ∷ 0x0C ∷ 0x09 ∷ [])) tt 100  -- checksum 0
-    ∷ call own own own own (63 ∷ zeros 63) tt 100  -- L above 62
-    ∷ call own own own own (zeros 63) tt 100  -- a record of 63 bytes
+    ∷ call own own own own (127 ∷ zeros 127) tt 100  -- L above 126
+    ∷ call own own own own (zeros 127) tt 100  -- a record of 127 bytes
     ∷ call (other (zeros 65535) (eqb-false 65535 65536 refl)) own own own (frameRecord 0 []) tt 100  -- a memory of 65,535 bytes
     ∷ call own none own none (frameRecord 0 []) tt 100  -- no device page and no return stack
     ∷ call own own own own (frameRecord 0 []) tt 0  -- budget 0

@@ -14,6 +14,7 @@ pub mod Numbers
 pub mod Pauses
 pub mod Reached
 pub mod Reasons
+pub mod RecordMoves
 pub mod Refusals
 pub mod Routines
 pub mod Rules

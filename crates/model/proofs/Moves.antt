@@ -52,11 +52,11 @@ by-records P size p none next sheet whole = go (length sheet) sheet (omega arith
     ]
 
 -- a record of so many bytes
-abbrev Long : ℕ → List ℕ → Type 0
+abbrev pub Long : ℕ → List ℕ → Type 0
 Long size entry = length entry ≡ size
 
 -- the records one after the other are the sheet
-joined : (size : ℕ) (sheet : List ℕ) → 0 < size → length sheet % size ≡ 0 → eachRecord (λ entry. entry) (recordsOf size sheet) ≡ sheet
+pub joined : (size : ℕ) (sheet : List ℕ) → 0 < size → length sheet % size ≡ 0 → eachRecord (λ entry. entry) (recordsOf size sheet) ≡ sheet
 unfolding eachRecord
 joined size sheet p =
     by-records (λ sheet. eachRecord (λ entry. entry) (recordsOf size sheet) ≡ sheet) size p
@@ -65,7 +65,7 @@ joined size sheet p =
     sheet
 
 -- each record has its size
-all-long : (size : ℕ) (sheet : List ℕ) → 0 < size → length sheet % size ≡ 0 → Every (Long size) (recordsOf size sheet)
+pub all-long : (size : ℕ) (sheet : List ℕ) → 0 < size → length sheet % size ≡ 0 → Every (Long size) (recordsOf size sheet)
 all-long size sheet p =
     by-records (λ sheet. Every (Long size) (recordsOf size sheet)) size p
     (rw (no-record size [] p) tt)
@@ -79,25 +79,25 @@ all-bytes size sheet p =
     (λ sheet h ih b. rw (first-record size sheet p h) (take-bytes size sheet b, ih (drop-bytes size sheet b)))
     sheet
 
-or-left : (a b : Bool) → (a || b) ≡ false → a ≡ false
+pub or-left : (a b : Bool) → (a || b) ≡ false → a ≡ false
 or-left true b e = absurd (true≢false e)
 or-left false b e = refl
 
-or-right : (a b : Bool) → (a || b) ≡ false → b ≡ false
+pub or-right : (a b : Bool) → (a || b) ≡ false → b ≡ false
 or-right true b e = absurd (true≢false e)
 or-right false b e = e
 
 -- a test that no record fails, each passes
-abbrev Passes : (List ℕ → Bool) → List ℕ → Type 0
+abbrev pub Passes : (List ℕ → Bool) → List ℕ → Type 0
 Passes test entry = test entry ≡ false
 
-all-pass : (test : List ℕ → Bool) (entries : List (List ℕ)) → someRecord test entries ≡ false → Every (Passes test) entries
+pub all-pass : (test : List ℕ → Bool) (entries : List (List ℕ)) → someRecord test entries ≡ false → Every (Passes test) entries
 unfolding someRecord
 all-pass test [] e = tt
 all-pass test (entry ∷ entries) e =
     (or-left (test entry) _ e, all-pass test entries (or-right (test entry) _ e))
 
-every-both : {A : Type 0} (P Q : A → Type 0) (xs : List A) → Every P xs → Every Q xs → Every (λ x. P x × Q x) xs
+pub every-both : {A : Type 0} (P Q : A → Type 0) (xs : List A) → Every P xs → Every Q xs → Every (λ x. P x × Q x) xs
 every-both P Q [] p q = tt
 every-both P Q (x ∷ xs) p q = ((p .0, q .0), every-both P Q xs (p .1) (q .1))
 
@@ -115,7 +115,7 @@ module _ (move : List ℕ → List ℕ) (P : List ℕ → Type 0) (size : ℕ) (
       first-record size (move entry ++ rest) p (rw length-append (omega arith))
       ∙ rw (take-at (move entry) rest size l, drop-at (move entry) rest size l)
 
-  moved-whole : (entries : List (List ℕ)) → Every P entries → length (eachRecord move entries) % size ≡ 0
+  pub moved-whole : (entries : List (List ℕ)) → Every P entries → length (eachRecord move entries) % size ≡ 0
   unfolding eachRecord
   moved-whole [] h = zero-mod size
   moved-whole (entry ∷ entries) h =
@@ -128,7 +128,7 @@ module _ (move : List ℕ → List ℕ) (P : List ℕ → Type 0) (size : ℕ) (
       rw (length-append, long entry (h .0), moved-length entries (h .1), suc-mul) (omega arith)
 
   -- a test that none of them fails
-  moved-none : (test : List ℕ → Bool) → ((entry : List ℕ) → P entry → test (move entry) ≡ false)
+  pub moved-none : (test : List ℕ → Bool) → ((entry : List ℕ) → P entry → test (move entry) ≡ false)
       → (entries : List (List ℕ)) → Every P entries → someRecord test (recordsOf size (eachRecord move entries)) ≡ false
   unfolding someRecord eachRecord
   moved-none test passes [] h = rw (no-record size [] p)
@@ -136,7 +136,7 @@ module _ (move : List ℕ → List ℕ) (P : List ℕ → Type 0) (size : ℕ) (
       rw (moved-first entry entries (h .0), passes entry (h .0)) (moved-none test passes entries (h .1))
 
   -- and moved back, each to what it was
-  moved-back : (back : List ℕ → List ℕ) → ((entry : List ℕ) → P entry → back (move entry) ≡ entry)
+  pub moved-back : (back : List ℕ → List ℕ) → ((entry : List ℕ) → P entry → back (move entry) ≡ entry)
       → (entries : List (List ℕ)) → Every P entries
       → eachRecord back (recordsOf size (eachRecord move entries)) ≡ eachRecord (λ entry. entry) entries
   unfolding eachRecord
@@ -164,7 +164,7 @@ by-eight P h (m ∷ []) l = absurd (omega arith)
 by-eight P h (m ∷ w ∷ []) l = absurd (omega arith)
 by-eight P h (m ∷ w ∷ r ∷ []) l = absurd (omega arith)
 
-all-zero : (bytes : List ℕ) → allZero bytes ≡ true → bytes ≡ zeros (length bytes)
+pub all-zero : (bytes : List ℕ) → allZero bytes ≡ true → bytes ≡ zeros (length bytes)
 all-zero [] e = refl
 all-zero (zero ∷ bytes) e = ap (λ rest. 0 ∷ rest) (all-zero bytes e)
 all-zero (suc b ∷ bytes) e = absurd (true≢false (sym e ∙ rw (ne-eqb (suc b) 0 (λ z. omega arith))))
@@ -239,7 +239,7 @@ narrows = by-eight Narrows by
 pub wrote-is : (bytes output : List ℕ) → wrote (written bytes output) ≡ bytes
 wrote-is bytes output = take-append-seam bytes (drop (length bytes) output)
 
-unrefused : (n : ℕ) (bytes output : List ℕ) → writeUnless n bytes output .number ≡ 0 → n ≡ 0
+pub unrefused : (n : ℕ) (bytes output : List ℕ) → writeUnless n bytes output .number ≡ 0 → n ≡ 0
 unfolding writeUnless
 unrefused zero bytes output e = refl
 unrefused (suc n) bytes output e = e
@@ -338,7 +338,7 @@ there-and-back = record { old = there-old; new = there-new }
 
 -- ---- how many bytes are written
 
-count-records : (size : ℕ) (sheet : List ℕ) → length (recordsOf size sheet) ≡ length sheet / size
+pub count-records : (size : ℕ) (sheet : List ℕ) → length (recordsOf size sheet) ≡ length sheet / size
 unfolding recordsOf pieces
 count-records size sheet = by (length sheet / size) sheet
   where

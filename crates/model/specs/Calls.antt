@@ -110,12 +110,13 @@ eventCall watch device budget s =
 
 -- ---- frame
 
--- "a record of exactly 64 bytes, no header: length L (0 to 62), node number, L data bytes, zeros to the end"
+-- C-16: "the record becomes 128 bytes with L from 0 to 126"; as before it has "no header: length L .., node number, L data bytes,
+-- zeros to the end"
 abbrev pub frameSize : ℕ
-frameSize = 64
+frameSize = 128
 
 abbrev pub frameMost : ℕ
-frameMost = 62
+frameMost = 126
 
 -- where it is written, and the port of the verdict
 abbrev pub framePlace : ℕ
@@ -128,17 +129,17 @@ abbrev pub allZero : List ℕ → Bool
 allZero [] = true
 allZero (b ∷ bs) = eqb b 0 && allZero bs
 
--- not "L above 62, or a byte past the data not 0", in a record whose data may have so many bytes
+-- not "L above 126 or a tail byte not 0", in a record whose data may have so many bytes
 unfoldable pub wellFormed : ℕ → List ℕ → Bool
 wellFormed most frame = leb (getD frame 0 0) most && allZero (drop (2 + getD frame 0 0) frame)
 
--- "frame record not 64 bytes", then 8
+-- C-16: "7 now means not 128", then 8
 unfoldable pub frameRows : List ℕ → State → List Row
 frameRows frame s =
     bufferRows s ++ ((7, not (hasLength frame frameSize)) ∷ (8, not (wellFormed frameMost frame)) ∷ [])
 
--- "Port F2 is set to 0, the record is written to memory 0080 to 00BF, both pointers become 0", and the counter 0100;
--- C-20: the high marks become 0
+-- "Port F2 is set to 0", C-16: the record is "written to 0080 to 00FF", "both pointers become 0", and the counter 0100; C-20: the high
+-- marks become 0
 unfoldable pub framed : List ℕ → State → State
 framed frame s =
     record {

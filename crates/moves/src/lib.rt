@@ -150,7 +150,7 @@ fn some_stays_new(sheet: &[u8]) -> bool
 }
 
 // Each record in the new form, one after the other; the rest of the output stays.
-fn widen_records(old: &[u8], output: &mut [u8])
+fn widen_all(old: &[u8], output: &mut [u8])
     requires { ⌜ (length (now old) % oldRecord ≡ 0) × (length (widenedSheet (now old)) ≤ length (now output)) ⌝ }
     ensures { λ _. ⌜ now (output .exit) ≡ widenedSheet (now (old .entry)) ++ drop (length (widenedSheet (now (old .entry)))) (now (output .entry)) ⌝ }
 {
@@ -165,7 +165,7 @@ fn widen_records(old: &[u8], output: &mut [u8])
 }
 
 // Each record's first four bytes, one after the other; the rest of the output stays.
-fn narrow_records(new: &[u8], output: &mut [u8])
+fn narrow_all(new: &[u8], output: &mut [u8])
     requires { ⌜ (length (now new) % sheetRecord ≡ 0) × (length (narrowedSheet (now new)) ≤ length (now output)) ⌝ }
     ensures { λ _. ⌜ now (output .exit) ≡ narrowedSheet (now (new .entry)) ++ drop (length (narrowedSheet (now (new .entry)))) (now (output .entry)) ⌝ }
 {
@@ -194,7 +194,7 @@ pub fn widen_sheet(old: &[u8], output: &mut [u8]) -> WriteReply
     if output.len() / 2 < old.len() {
         return WriteReply::Refused(13);
     }
-    widen_records(old, output);
+    widen_all(old, output);
     WriteReply::Written(old.len() * 2)
 }
 
@@ -214,6 +214,6 @@ pub fn narrow_sheet(new: &[u8], output: &mut [u8]) -> WriteReply
     if output.len() < new.len() / 2 {
         return WriteReply::Refused(13);
     }
-    narrow_records(new, output);
+    narrow_all(new, output);
     WriteReply::Written(new.len() / 2)
 }

@@ -10,7 +10,7 @@ use lib.Dec.{eqb}
 use lib.ListN.{length, getD, drop, drop-of-length-le}
 use lib.Seq.{drop-cons}
 use borrow.Author.Tests.{ne-eqb, le-leb, lt-leb}
-use Rattle.model.specs.Calls.{frameMost, allZero, wellFormed}
+use Rattle.model.specs.Calls.{allZero, wellFormed}
 
 and-assoc : (a b c : Bool) → (a && (b && c)) ≡ ((a && b) && c)
 and-assoc true b c = refl
@@ -35,12 +35,12 @@ zero-so-far frame i seen rest h e =
     rw (both-zero seen (getD frame i 0), add-one) (sym (and-assoc (eqb seen 0) (eqb (getD frame i 0) 0) (allZero (drop (suc i) frame))) ∙ rw (drop-cons frame i 0 h) at e)
 
 -- all of them
-pub all-seen : (frame : List ℕ) (n i seen : ℕ) → n ≡ getD frame 0 0 → n ≤ frameMost → length frame ≤ i
-    → (eqb seen 0 && allZero (drop i frame)) ≡ allZero (drop (2 + n) frame) → eqb seen 0 ≡ wellFormed frameMost frame
+pub all-seen : (frame : List ℕ) (most n i seen : ℕ) → n ≡ getD frame 0 0 → n ≤ most → length frame ≤ i
+    → (eqb seen 0 && allZero (drop i frame)) ≡ allZero (drop (2 + n) frame) → eqb seen 0 ≡ wellFormed most frame
 unfolding wellFormed
-all-seen frame n i seen hn h l e =
-    rw (← hn, le-leb n frameMost h) (sym (and-true (eqb seen 0)) ∙ rw (drop-of-length-le frame l) at e)
+all-seen frame most n i seen hn h l e =
+    rw (← hn, le-leb n most h) (sym (and-true (eqb seen 0)) ∙ rw (drop-of-length-le frame l) at e)
 
-pub too-long : (frame : List ℕ) (n : ℕ) → n ≡ getD frame 0 0 → frameMost < n → false ≡ wellFormed frameMost frame
+pub too-long : (frame : List ℕ) (most n : ℕ) → n ≡ getD frame 0 0 → most < n → false ≡ wellFormed most frame
 unfolding wellFormed
-too-long frame n hn h = rw (← hn, lt-leb n frameMost h)
+too-long frame most n hn h = rw (← hn, lt-leb n most h)

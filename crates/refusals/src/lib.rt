@@ -1,8 +1,9 @@
 // The tests behind the numbered replies: the number, or 0 where no row of the call says so.
 ghost use mathlib.Core.Path.{_≡_};
+ghost use Prim.Native.Nat.{_+_, _≤_};
 ghost use lib.ListN.{length};
 ghost use Rattle.model.specs.Machine.{state};
-ghost use Rattle.model.specs.Calls.{refusal, bufferRows, loadRows, eventRows, frameSize, frameMost, wellFormed, frameRows};
+ghost use Rattle.model.specs.Calls.{refusal, bufferRows, loadRows, eventRows, wellFormed, frameRows};
 ghost use Rattle.model.specs.declared.Machine.{Machine};
 
 // "Memory: a lent buffer of 65,536 bytes. Device page: 256. Working (data) stack and return stack: 256 each."
@@ -18,10 +19,10 @@ const LOAD_MOST: usize = 65280;
 // "Event for device d, 0 to 15".
 const LAST_DEVICE: u32 = 15;
 
-// Frame: "a record of exactly 64 bytes, no header: length L (0 to 62), node number, L data bytes".
-const FRAME_SIZE: usize = 64;
+// C-16: "the record becomes 128 bytes with L from 0 to 126".
+const FRAME_SIZE: usize = 128;
 
-const FRAME_MOST: usize = 62;
+const FRAME_MOST: usize = 126;
 
 // L and the node number stand before the data.
 const FRAME_HEAD: usize = 2;
@@ -77,19 +78,19 @@ pub fn event_refusal(memory: &[u8], devices: &[u8], work: &[u8], ret: &[u8], dev
 }
 
 // A function of its own, since a cast of an element of a slice would ask for a proof that the byte fits.
-fn widened(b: u8) -> usize
+pub fn widened(b: u8) -> usize
     ensures { λ r. ⌜ r ≡ b ⌝ }
 {
     b as usize
 }
 
-// Not "L above 62, or a byte past the data not 0". The bytes are joined by OR: no branch in the loop.
-pub fn well_formed(frame: &[u8]) -> bool
-    requires { ⌜ length (now frame) ≡ frameSize ⌝ }
-    ensures { λ r. ⌜ r ≡ wellFormed frameMost (now (frame .entry)) ⌝ }
+// Not "L above 126 or a tail byte not 0", in a record whose data may have so many bytes. The bytes are joined by OR: no branch in the loop.
+pub fn well_formed(frame: &[u8], most: usize) -> bool
+    requires { ⌜ 2 + most ≤ length (now frame) ⌝ }
+    ensures { λ r. ⌜ r ≡ wellFormed most (now (frame .entry)) ⌝ }
 {
     let n = widened(frame[0]);
-    if FRAME_MOST < n {
+    if most < n {
         return false;
     }
     let mut seen: u8 = 0;
@@ -101,7 +102,7 @@ pub fn well_formed(frame: &[u8]) -> bool
     seen == 0
 }
 
-// "frame record not 64 bytes": 7; not well-formed: 8.
+// C-16: "7 now means not 128", 8 not well-formed.
 pub fn frame_refusal(memory: &[u8], devices: &[u8], work: &[u8], ret: &[u8], frame: &[u8]) -> u8
     ensures { λ r. ⌜ ((m : Machine) → r ≡ refusal (frameRows (now (frame .entry)) (state (now (memory .entry)) (now (devices .entry)) (now (work .entry)) (now (ret .entry)) m))) ⌝ }
 {
@@ -112,5 +113,5 @@ pub fn frame_refusal(memory: &[u8], devices: &[u8], work: &[u8], ret: &[u8], fra
     if frame.len() != FRAME_SIZE {
         return 7;
     }
-    if well_formed(frame) { 0 } else { 8 }
+    if well_formed(frame, FRAME_MOST) { 0 } else { 8 }
 }

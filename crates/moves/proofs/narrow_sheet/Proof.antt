@@ -16,11 +16,11 @@ returns-3 c = calls.narrow-stays _ _ (c .before .before .before .some-wrong-new 
 returns-4 : tie.Need-returns-4
 returns-4 c = calls.narrow-short _ _ (c .before .before .before .before .some-wrong-new .result) (c .before .before .before .before .some-wrong-new .ensures) (c .before .before .before .if2 .left) (c .before .before .before .before .before .if1 .left) (c .before .before .some-stays-new .result) (c .before .before .some-stays-new .ensures) (c .before .if3 .left) (c .if4 .taken)
 
-narrow-records-requires : tie.Need-narrow-records-requires
-narrow-records-requires c κs = (c .before .before .before .before .before .before .if1 .left, calls.narrow-fits _ _ (c .before .before .before .before .before .before .if1 .left) (c .before .if4 .left))
+narrow-all-requires : tie.Need-narrow-all-requires
+narrow-all-requires c κs = (c .before .before .before .before .before .before .if1 .left, calls.narrow-fits _ _ (c .before .before .before .before .before .before .if1 .left) (c .before .if4 .left))
 
 returns-5 : tie.Need-returns-5
-returns-5 c = calls.narrow-written _ _ (c .before .before .before .before .before .before .before .before .some-wrong-new .result) (c .before .before .before .before .before .before .before .before .some-wrong-new .ensures) (c .before .before .before .before .before .before .before .if2 .left) (c .before .before .before .before .before .before .before .before .before .if1 .left) (c .before .before .before .before .before .before .some-stays-new .result) (c .before .before .before .before .before .before .some-stays-new .ensures) (c .before .before .before .before .before .if3 .left) (c .before .before .before .before .if4 .left) _ (c .before .before .narrow-records .ensures)
+returns-5 c = calls.narrow-written _ _ (c .before .before .before .before .before .before .before .before .some-wrong-new .result) (c .before .before .before .before .before .before .before .before .some-wrong-new .ensures) (c .before .before .before .before .before .before .before .if2 .left) (c .before .before .before .before .before .before .before .before .before .if1 .left) (c .before .before .before .before .before .before .some-stays-new .result) (c .before .before .before .before .before .before .some-stays-new .ensures) (c .before .before .before .before .before .if3 .left) (c .before .before .before .before .if4 .left) _ (c .before .before .narrow-all .ensures)
 
 pub narrow-sheet-spec : {M : Type 1} → statement M
 narrow-sheet-spec =
@@ -32,6 +32,6 @@ narrow-sheet-spec =
     (λ c κs. search needs)
     returns-3
     returns-4
-    narrow-records-requires
+    narrow-all-requires
     (λ c. search needs)
     returns-5)

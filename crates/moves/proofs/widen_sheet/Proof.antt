@@ -13,11 +13,11 @@ returns-2 c = calls.widen-wrong _ _ (c .before .some-wrong-old .result) (c .befo
 returns-3 : tie.Need-returns-3
 returns-3 c = calls.widen-short _ _ (c .before .before .some-wrong-old .result) (c .before .before .some-wrong-old .ensures) (c .before .if2 .left) (c .before .before .before .if1 .left) (c .if3 .taken)
 
-widen-records-requires : tie.Need-widen-records-requires
-widen-records-requires c κs = (c .before .before .before .before .if1 .left, calls.widen-fits _ _ (c .before .before .before .before .if1 .left) (c .before .if3 .left))
+widen-all-requires : tie.Need-widen-all-requires
+widen-all-requires c κs = (c .before .before .before .before .if1 .left, calls.widen-fits _ _ (c .before .before .before .before .if1 .left) (c .before .if3 .left))
 
 returns-4 : tie.Need-returns-4
-returns-4 c = calls.widen-written _ _ (c .before .before .before .before .before .before .some-wrong-old .result) (c .before .before .before .before .before .before .some-wrong-old .ensures) (c .before .before .before .before .before .if2 .left) (c .before .before .before .before .before .before .before .if1 .left) (c .before .before .before .before .if3 .left) _ (c .before .before .widen-records .ensures)
+returns-4 c = calls.widen-written _ _ (c .before .before .before .before .before .before .some-wrong-old .result) (c .before .before .before .before .before .before .some-wrong-old .ensures) (c .before .before .before .before .before .if2 .left) (c .before .before .before .before .before .before .before .if1 .left) (c .before .before .before .before .if3 .left) _ (c .before .before .widen-all .ensures)
 
 pub widen-sheet-spec : {M : Type 1} → statement M
 widen-sheet-spec =
@@ -27,7 +27,7 @@ widen-sheet-spec =
     (λ c κs. search needs)
     returns-2
     returns-3
-    widen-records-requires
+    widen-all-requires
     (λ c. search needs)
     (λ c. search needs)
     returns-4)

@@ -13,11 +13,11 @@ use Rattle.refusals.proofs.well_formed.Statement.{statement}
 use Rattle.refusals.proofs.well_formed.Tie as tie
 
 abbrev Inv-loop : tie.InvT-loop
-Inv-loop frame n seen₀ i₀ seen i =
+Inv-loop frame most n seen₀ i₀ seen i =
     (i ≤ length frame) × ((eqb seen 0 && allZero (drop i frame)) ≡ allZero (drop (2 + n) frame))
 
 abbrev μ-loop : tie.MeasureT-loop
-μ-loop frame n seen₀ i₀ seen i = length frame - i
+μ-loop frame most n seen₀ i₀ seen i = length frame - i
 
 shared-slice-read-widened : tie.Need-shared-slice-read-widened Inv-loop μ-loop
 shared-slice-read-widened c = search needs
@@ -26,7 +26,7 @@ widened-requires : tie.Need-widened-requires Inv-loop μ-loop
 widened-requires c κs = search needs
 
 returns : tie.Need-returns Inv-loop μ-loop
-returns c = frames.too-long _ (c .before .widened .result) (c .before .widened .ensures) (c .if1 .taken)
+returns c = frames.too-long _ _ (c .before .widened .result) (c .before .widened .ensures) (c .if1 .taken)
 
 add-i : tie.Need-add-i Inv-loop μ-loop
 add-i c = omega arith
@@ -52,7 +52,7 @@ loop-again c = (
 
 returns-2 : tie.Need-returns-2 Inv-loop μ-loop
 returns-2 c =
-    frames.all-seen _ _ (c .before .loop .i) (c .before .loop .seen) (c .before .before .before .widened .ensures) (c .before .before .if1 .left) (c .loop-test .left)
+    frames.all-seen _ _ _ (c .before .loop .i) (c .before .loop .seen) (c .before .before .before .widened .ensures) (c .before .before .if1 .left) (c .loop-test .left)
     (c .before .loop .inv .1)
 
 pub well-formed-spec : {M : Type 1} → statement M

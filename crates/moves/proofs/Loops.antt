@@ -1,4 +1,4 @@
--- Laws of the loops over a sheet, for records of any size: of a test of each record, and of a move of each. Assumes nothing.
+-- Laws of the loops over a file of records of any size: of a test of each record, and of a move of each. Assumes nothing.
 use mathlib.Core.Path.{_≡_, refl, sym, ap, _∙_}
 use mathlib.Core.Bool.{Bool, true, false}
 use mathlib.Core.List.{List, [], _∷_, _++_, append-assoc, append-nil}
@@ -123,7 +123,7 @@ module _ (move : List ℕ → List ℕ) (size : ℕ) (sheet before : List ℕ) (
           let l = rw (split size sheet p at (m .place) left, length-append, length-append, long, length-take-le to output (m .inside)) at (ap length (m .front)) in
           omega (arith, l, m .long)
 
-      moved-next : (after : List ℕ) → to + k ≤ length output → after ≡ take to output ++ move (take size (drop at sheet)) ++ drop (to + k) output
+      pub moved-next : (after : List ℕ) → to + k ≤ length output → after ≡ take to output ++ move (take size (drop at sheet)) ++ drop (to + k) output
           → Moved move size sheet before after (at + size) (to + k)
       unfolding eachRecord
       moved-next after h e =

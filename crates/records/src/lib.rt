@@ -1,0 +1,140 @@
+// The two moves of a file of frame records: from 64 bytes a record to 128, and back.
+use buffers::fill;
+use model::Form;
+use model::WriteReply;
+use refusals::well_formed;
+use refusals::widened;
+ghost use mathlib.Core.Path.{_≡_};
+ghost use mathlib.Core.List.{_++_};
+ghost use Prim.Native.Nat.{_+_, _%_, _≤_, _<_, min};
+ghost use lib.ListN.{length, getD, drop};
+ghost use Rattle.model.specs.Moves.{recordsOf, someRecord, eachRecord};
+ghost use Rattle.model.specs.RecordMoves.{oldForm, newForm, broken, tooLong, fitted, moveCall, widenRecords, narrowRecords};
+ghost use Rattle.model.specs.Replies.{ofWrite};
+
+// Document 01: "a record of exactly 64 bytes", "length L (0 to 62)".
+fn old_form() -> Form
+    ensures { λ r. ⌜ r ≡ oldForm ⌝ }
+{
+    Form {
+        size: 64,
+        most: 62,
+    }
+}
+
+// C-16: "the record becomes 128 bytes with L from 0 to 126".
+fn new_form() -> Form
+    ensures { λ r. ⌜ r ≡ newForm ⌝ }
+{
+    Form {
+        size: 128,
+        most: 126,
+    }
+}
+
+// ---- a file
+
+// "a broken one by its form's rules".
+fn some_broken(file: &[u8], size: usize, most: usize) -> bool
+    requires { ⌜ (2 + most ≤ size) × (length (now file) % size ≡ 0) ⌝ }
+    ensures { λ b. ⌜ b ≡ someRecord (broken most) (recordsOf size (now (file .entry))) ⌝ }
+{
+    let mut at = 0;
+    while at < file.len() {
+        let end = at + size;
+        if !well_formed(&file[at..end], most) {
+            return true;
+        }
+        at = end;
+    }
+    false
+}
+
+fn data_length(entry: &[u8]) -> usize
+    requires { ⌜ 0 < length (now entry) ⌝ }
+    ensures { λ r. ⌜ r ≡ getD (now (entry .entry)) 0 0 ⌝ }
+{
+    widened(entry[0])
+}
+
+// "one too long to go back": L is above what the other form allows.
+fn some_too_long(file: &[u8], size: usize, most: usize) -> bool
+    requires { ⌜ (0 < size) × (length (now file) % size ≡ 0) ⌝ }
+    ensures { λ b. ⌜ b ≡ someRecord (tooLong most) (recordsOf size (now (file .entry))) ⌝ }
+{
+    let mut at = 0;
+    while at < file.len() {
+        let end = at + size;
+        if most < data_length(&file[at..end]) {
+            return true;
+        }
+        at = end;
+    }
+    false
+}
+
+fn smaller(a: usize, b: usize) -> usize
+    ensures { λ r. ⌜ r ≡ min a b ⌝ }
+{
+    if a < b { a } else { b }
+}
+
+// Each record in as many bytes as the other form has, one after the other: the bytes that both forms have room for, and zeros after
+// them. The rest of the output stays.
+fn fit_records(file: &[u8], size: usize, output: &mut [u8], room: usize)
+    requires { ⌜ (0 < size) × (length (now file) % size ≡ 0) × (length (eachRecord (fitted room) (recordsOf size (now file))) ≤ length (now output)) ⌝ }
+    ensures { λ _. ⌜ now (output .exit) ≡ eachRecord (fitted room) (recordsOf size (now (file .entry)))
+        ++ drop (length (eachRecord (fitted room) (recordsOf size (now (file .entry))))) (now (output .entry)) ⌝ }
+{
+    let kept = smaller(size, room);
+    let mut at = 0;
+    let mut put = 0;
+    while at < file.len() {
+        let end = at + kept;
+        let next = put + room;
+        fill(&mut output[put..next], &file[at..end]);
+        at += size;
+        put = next;
+    }
+}
+
+// ---- the calls
+
+// "15 for a file not of whole records, then 8 for a broken one by its form's rules, then 16 for one too long to go back, then 13 for
+// a short output", each with "nothing written".
+fn move_records(from: Form, to: Form, file: &[u8], output: &mut [u8]) -> WriteReply
+    requires { ⌜ (2 + from .most ≤ from .size) × (0 < to .size) ⌝ }
+    ensures { λ r. ⌜ ofWrite (now (output .exit)) r ≡ moveCall from to (now (file .entry)) (now (output .entry)) ⌝ }
+{
+    let size = from.size;
+    if file.len() % size != 0 {
+        return WriteReply::Refused(15);
+    }
+    if some_broken(file, size, from.most) {
+        return WriteReply::Refused(8);
+    }
+    if some_too_long(file, size, to.most) {
+        return WriteReply::Refused(16);
+    }
+    let count = file.len() / size;
+    let room = to.size;
+    if output.len() / room < count {
+        return WriteReply::Refused(13);
+    }
+    fit_records(file, size, output, room);
+    WriteReply::Written(count * room)
+}
+
+// "move each to the new form by adding zeros".
+pub fn widen_records(old: &[u8], output: &mut [u8]) -> WriteReply
+    ensures { λ r. ⌜ ofWrite (now (output .exit)) r ≡ widenRecords (now (old .entry)) (now (output .entry)) ⌝ }
+{
+    move_records(old_form(), new_form(), old, output)
+}
+
+// "and back where L is at most 62".
+pub fn narrow_records(new: &[u8], output: &mut [u8]) -> WriteReply
+    ensures { λ r. ⌜ ofWrite (now (output .exit)) r ≡ narrowRecords (now (new .entry)) (now (output .entry)) ⌝ }
+{
+    move_records(new_form(), old_form(), new, output)
+}
