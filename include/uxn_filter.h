@@ -4,7 +4,7 @@
  * A machine is a record of five numbers, passed and returned by value, and four buffers that the caller owns and lends to
  * each call, each with its length in bytes:
  *
- *   memory        65,536 bytes   the program stands at 0x0100; a frame record is written to 0x0080 .. 0x00BF
+ *   memory        65,536 bytes   the program stands at 0x0100; a frame record is written to 0x0080 .. 0x00FF
  *   device page      256 bytes   plain bytes; a 16-bit number at port 16 * d is the vector of device d, port 0xF2 the verdict
  *   working stack    256 bytes
  *   return stack     256 bytes
@@ -16,9 +16,9 @@
  * Every call ends: a run takes at most `budget` instructions. What each call replies and leaves in every lent byte is proved
  * for every input (crates/capi/src/lib.rt has the contracts, crates/model/specs the definitions that they cite).
  *
- * The library has nine calls: five on a machine, the admission of a program, why a program is refused, and two moves of stored
- * sheets. At the end of this file stands a struct, uxn_host, that holds record and buffers of a machine, with functions that make
- * the calls on it. A host that does not use it pays nothing for it.
+ * The library has eleven calls: five on a machine, the admission of a program, why a program is refused, two moves of stored
+ * sheets, and two of files of frame records. At the end of this file stands a struct, uxn_host, that holds record and buffers of a
+ * machine, with functions that make the calls on it. A host that does not use it pays nothing for it.
  */
 #ifndef UXN_FILTER_H
 #define UXN_FILTER_H
@@ -31,8 +31,9 @@
    had four bytes for each program byte; since version 3 it has eight, and uxn_widen_sheet and uxn_narrow_sheet move sheets from
    one form to the other. Since version 4 uxn_explain says why a program is refused. Since version 5 uxn_machine has two high marks:
    it has 6 bytes where it had 4, and uxn_reply 16 where it had 12. Since version 6 uxn_run and uxn_event take what is watched, with
-   the answer UXN_PAUSED, and uxn_reply has 20 bytes: uxn_step says which ports the instruction wrote. */
-#define UXN_FILTER_VERSION 6
+   the answer UXN_PAUSED, and uxn_reply has 20 bytes: uxn_step says which ports the instruction wrote. Since version 7 a frame record
+   has 128 bytes, where it had 64, and uxn_widen_records and uxn_narrow_records move files of records from one form to the other. */
+#define UXN_FILTER_VERSION 7
 
 #ifdef __cplusplus
 extern "C" {
@@ -71,12 +72,15 @@ typedef struct {
 #define UXN_RETURN_STACK_LENGTH 4   /* the return stack is not 256 bytes */
 #define UXN_PROGRAM_LENGTH 5        /* the program is empty; uxn_load: or above 65,280 bytes */
 #define UXN_DEVICE_NUMBER 6         /* uxn_event: the device is above 15 */
-#define UXN_RECORD_LENGTH 7         /* uxn_frame: the record is not 64 bytes */
-#define UXN_RECORD_FORM 8           /* uxn_frame: the record's length byte is above 62, or a byte past its data is not 0 */
+#define UXN_RECORD_LENGTH 7         /* uxn_frame: the record is not 128 bytes */
+#define UXN_RECORD_FORM 8           /* uxn_frame, the moves of records: a record's length byte is above 126, that of an old
+                                       record above 62, or a byte past the data is not 0 */
 #define UXN_ADMIT_LENGTH 9          /* uxn_admit, uxn_explain: the program is above 4,096 bytes */
 #define UXN_SHEET_LENGTH 10         /* uxn_admit: the sheet is not eight times the program's length */
 #define UXN_NO_ASSIGNMENT 11        /* uxn_admit, uxn_explain: no depths and routines obey the admission rules */
-#define UXN_OUTPUT_LENGTH 13        /* uxn_widen_sheet, uxn_narrow_sheet: the output is too short */
+#define UXN_OUTPUT_LENGTH 13        /* the moves of sheets and of records: the output is too short */
+#define UXN_RECORDS_LENGTH 15       /* uxn_widen_records, uxn_narrow_records: the file is not whole records */
+#define UXN_RECORD_TOO_LONG 16      /* uxn_narrow_records: a record's length byte is above 62, so that it can not go back */
 #define UXN_SHEET_FORM 18           /* uxn_widen_sheet, uxn_narrow_sheet: the sheet is not of the form that is moved */
 #define UXN_SHEET_ROUTINE 19        /* uxn_narrow_sheet: a marked record has another routine than 0x0100 */
 
@@ -113,8 +117,8 @@ uxn_reply uxn_event(uxn_machine machine, uint8_t *memory, size_t memory_length, 
                     uint8_t *working, size_t working_length, uint8_t *ret, size_t ret_length, uint32_t device, uint32_t budget,
                     uint16_t watch);
 
-/* A frame record of 64 bytes: length of the data (0 to 62), node number, the data, zeros to the end. Port 0xF2 becomes 0, the
-   record is written to 0x0080 .. 0x00BF, pointers and high marks become 0, and the program runs from 0x0100. It watches nothing.
+/* A frame record of 128 bytes: length of the data (0 to 126), node number, the data, zeros to the end. Port 0xF2 becomes 0, the
+   record is written to 0x0080 .. 0x00FF, pointers and high marks become 0, and the program runs from 0x0100. It watches nothing.
    Refusals: 1 to 4, 7, 8. */
 uxn_reply uxn_frame(uxn_machine machine, uint8_t *memory, size_t memory_length, uint8_t *device_page, size_t device_page_length,
                     uint8_t *working, size_t working_length, uint8_t *ret, size_t ret_length, const uint8_t *record,
@@ -187,6 +191,21 @@ uxn_written uxn_widen_sheet(const uint8_t *sheet, size_t sheet_length, uint8_t *
 /* Back, half as long: the first four bytes of each record. Refusals: 18, then 19 if a marked record has another routine than
    0x0100, then 13. */
 uxn_written uxn_narrow_sheet(const uint8_t *sheet, size_t sheet_length, uint8_t *output, size_t output_length);
+
+/* The two moves of files of frame records, one record after the other and nothing else. In the old form, that of version 6, a record
+   has 64 bytes, and its length byte is 0 to 62; in the new form, which uxn_frame takes, 128 bytes and 0 to 126. In both the data are
+   followed by zeros. The file stays as it is, and so do the bytes of the output past those written. A file of no bytes is moved to no
+   bytes, and there is no limit on the number of records. A refusal leaves the output as found. The two must not overlap, and no
+   pointer may be null. Every record is looked at before another number is given. */
+
+/* From the old form to the new one, twice as long: each record gets 64 zeros at its end. Refusals: 15 if the file is not whole
+   records of 64 bytes, then 8 if the length byte of a record is above 62 or a byte past its data is not 0, then 13. */
+uxn_written uxn_widen_records(const uint8_t *old_records, size_t old_length, uint8_t *output, size_t output_length);
+
+/* Back, half as long: the first 64 bytes of each record. Refusals: 15 if the file is not whole records of 128 bytes, then 8 if the
+   length byte of a record is above 126 or a byte past its data is not 0, then 16 if the length byte of a record is above 62, then
+   13. */
+uxn_written uxn_narrow_records(const uint8_t *new_records, size_t new_length, uint8_t *output, size_t output_length);
 
 /*
  * The usual host, in C99 and later and in C++. A uxn_host is a machine: its record, and its four buffers of the right lengths.

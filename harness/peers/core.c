@@ -267,15 +267,15 @@ reply CALL(frame)(BUFFERS, const uint8_t *record, size_t record_len, uint32_t bu
     uint8_t number = wrong_buffer(mem_len, dev_len, wst_len, rst_len);
     if (number)
         return refused(from, number);
-    if (record_len != 64)
+    if (record_len != 128)
         return refused(from, 7);
-    if (record[0] > 62)
+    if (record[0] > 126)
         return refused(from, 8);
-    for (size_t at = 2 + (size_t)record[0]; at < 64; at++)
+    for (size_t at = 2 + (size_t)record[0]; at < 128; at++)
         if (record[at])
             return refused(from, 8);
     dev[0xf2] = 0;
-    memcpy(mem + 0x0080, record, 64);
+    memcpy(mem + 0x0080, record, 128);
     machine start = {0x0100, 0, 0, 0, 0};
     reply ran = run_sized(start, mem, dev, wst, rst, budget, WATCH_NONE);
     if (ran.answer == BROKE)

@@ -2,7 +2,10 @@
 
 pub const MEMORY: usize = 65_536;
 pub const PAGE: usize = 256;
-pub const RECORD: usize = 64;
+/// A frame record: data length, node number, data, zeros to the end.
+pub const RECORD: usize = 128;
+/// The same in the old form.
+pub const OLD_RECORD: usize = 64;
 pub const PROGRAM_START: u16 = 0x0100;
 /// A program fills memory from 0100 to FFFF at most.
 pub const PROGRAM_LIMIT: usize = MEMORY - PROGRAM_START as usize;
@@ -12,7 +15,7 @@ pub const ADMIT_LIMIT: usize = 4_096;
 /// routine (two bytes), two zeros.
 pub const SHEET_RECORD: usize = 8;
 /// The same in the old form of a sheet.
-pub const OLD_RECORD: usize = 4;
+pub const OLD_SHEET_RECORD: usize = 4;
 
 /// Numbers that are no device, 16 and up: ends, and some that would be 3, or have the port of
 /// device 3, if only their low 8, 16, 24 or 31 bits were looked at or 16 times the number wrapped.

@@ -4,6 +4,7 @@
 //! - `second`: the second, independent machine; `pair`: both side by side;
 //! - `second_admission`: the second admission; `reasons`: whether a reason is true of a program;
 //!   `admissions`: the admissions side by side, and the reasons;
+//! - `moves`: moves between an old form and a new one, each beside a second one;
 //! - `watch`: demand 3, watched step by step;
 //! - `linked`: the linked programs; `sentences`: the line of `explain`; `compiled`: C programs over the library; `disassembly`: its machine
 //!   code;
@@ -23,6 +24,7 @@ pub mod filters;
 pub mod library;
 pub mod linked;
 pub mod listing;
+pub mod moves;
 pub mod opcodes;
 pub mod page;
 pub mod pair;

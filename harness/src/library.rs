@@ -54,6 +54,18 @@ extern "C" {
         output: *mut u8,
         output_length: usize,
     ) -> Written;
+    fn uxn_widen_records(
+        old_records: *const u8,
+        old_length: usize,
+        output: *mut u8,
+        output_length: usize,
+    ) -> Written;
+    fn uxn_narrow_records(
+        new_records: *const u8,
+        new_length: usize,
+        output: *mut u8,
+        output_length: usize,
+    ) -> Written;
 }
 
 /// A sheet of the old form, moved to the new one.
@@ -66,14 +78,17 @@ pub fn narrow_sheet(sheet: &[u8], output: &mut [u8]) -> Written {
     moved(uxn_narrow_sheet, sheet, output)
 }
 
-fn moved(call: Move, sheet: &[u8], output: &mut [u8]) -> Written {
+/// A file of frame records of the old form, moved to the new one.
+pub fn widen_records(records: &[u8], output: &mut [u8]) -> Written {
+    moved(uxn_widen_records, records, output)
+}
+
+/// And back.
+pub fn narrow_records(records: &[u8], output: &mut [u8]) -> Written {
+    moved(uxn_narrow_records, records, output)
+}
+
+fn moved(call: Move, from: &[u8], output: &mut [u8]) -> Written {
     // Both pointers are those of live slices with their lengths, which do not overlap.
-    unsafe {
-        call(
-            sheet.as_ptr(),
-            sheet.len(),
-            output.as_mut_ptr(),
-            output.len(),
-        )
-    }
+    unsafe { call(from.as_ptr(), from.len(), output.as_mut_ptr(), output.len()) }
 }

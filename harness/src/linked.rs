@@ -22,6 +22,8 @@ use crate::{library, second_admission, sentences};
 
 /// Steps that `frames` gives each frame.
 pub const BUDGET: u32 = 10_000;
+/// Records of a block: `frames` reads no more than 65,536 bytes at once.
+pub const BLOCK: usize = 65_536 / RECORD;
 /// A program that should have ended by then hangs.
 pub const PATIENCE: Duration = Duration::from_secs(20);
 

@@ -451,7 +451,7 @@ pub fn frame(machine: Machine, lent: Buffers, record: &[u8], budget: u32) -> Rep
     }
     let device_page = core.device_page;
     device_page[0xf2] = 0;
-    core.memory[0x80..0xc0].copy_from_slice(record);
+    core.memory[0x80..0x100].copy_from_slice(record);
     let again = Core {
         device_page: &mut *device_page,
         ..core

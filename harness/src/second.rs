@@ -454,10 +454,10 @@ fn wrong_buffer(parts: &Parts) -> Option<u8> {
     }
 }
 
-/// Number 8: the length byte is above 62, or a byte past the data is not 0.
+/// Number 8: the length byte is above 126, or a byte past the data is not 0.
 fn wrong_record(frame: &[u8]) -> bool {
     let length = usize::from(frame[0]);
-    length > 62 || frame[2 + length..].iter().any(|&byte| byte != 0)
+    length > 126 || frame[2 + length..].iter().any(|&byte| byte != 0)
 }
 
 fn refused(record: Record, number: u8) -> Reply {
@@ -581,14 +581,14 @@ pub fn frame(record: Record, parts: &mut Parts, frame: &[u8], budget: u32) -> Re
     if let Some(number) = wrong_buffer(parts) {
         return refused(record, number);
     }
-    if frame.len() != 64 {
+    if frame.len() != 128 {
         return refused(record, 7);
     }
     if wrong_record(frame) {
         return refused(record, 8);
     }
     parts.device_page[0xf2] = 0;
-    parts.memory[0x0080..=0x00bf].copy_from_slice(frame);
+    parts.memory[0x0080..=0x00ff].copy_from_slice(frame);
     let ran = run_parts(START, parts, budget, None);
     let verdict = match ran.answer {
         Answer::Broke => parts.device_page[0xf2],

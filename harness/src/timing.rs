@@ -4,7 +4,7 @@
 use std::hint::black_box;
 use std::time::Instant;
 
-use crate::calls::{Buffers, Owned, Reply, ADMITTED, SHEET_RECORD, WATCH_NONE};
+use crate::calls::{Buffers, Owned, Reply, ADMITTED, RECORD, SHEET_RECORD, WATCH_NONE};
 use crate::peers::{Admission, Core, Kind};
 use crate::workloads::{filter, prepared, record, Shape, Workload};
 
@@ -92,7 +92,7 @@ pub fn time_calls(cores: &[Core], rounds: u32, repeats: u32) -> Vec<Row> {
     let program = filter();
     let good = record();
     let mut bad = good;
-    bad[63] = 1;
+    bad[RECORD - 1] = 1;
     let (machine, mut owned) = prepared(&program);
 
     let load = |core: &Core, lent: Buffers| (core.load)(machine, lent, black_box(&program));

@@ -18,10 +18,10 @@ const SOURCES: [(&str, &str); 6] = [
     ("straight", STRAIGHT),
 ];
 
-/// A byte loop over the frame record that sums it.
+/// A byte loop over the frame record, 0080 to 00ff, that sums it.
 const CHECKSUM: &str = "
     @again LIT 00 LIT 80
-    @next DUP LDZ ROT ADD SWP INC DUP LIT c0 NEQ JCI =next
+    @next DUP LDZ ROT ADD SWP INC DUP LIT 00 NEQ JCI =next
     POP LIT 10 STZ
     JMI =again";
 
@@ -326,6 +326,6 @@ pub fn prepared(program: &[u8]) -> (Machine, Owned) {
     let mut owned = Owned::new();
     let start = usize::from(PROGRAM_START);
     owned.memory[start..start + program.len()].copy_from_slice(program);
-    owned.memory[0x80..0xc0].copy_from_slice(&record());
+    owned.memory[0x80..0x100].copy_from_slice(&record());
     (Machine::at(PROGRAM_START, 0, 0), owned)
 }

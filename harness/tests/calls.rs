@@ -299,8 +299,8 @@ fn frames_of_wrong_size() {
     let mut random = Random::new(seed());
     pair.make_dirty(&mut random);
     let before = pair.snapshot();
-    for size in [0, 1, 2, 63, 65, 66, 127, 128, 256, MEMORY] {
-        for first in [0, 62, 63, 255] {
+    for size in [0, 1, 2, 63, 64, 65, 126, 127, 129, 130, 255, 256, MEMORY] {
+        for first in [0, 62, 63, 126, 127, 255] {
             let mut record = vec![0; size];
             if let Some(length) = record.first_mut() {
                 *length = first;

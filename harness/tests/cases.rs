@@ -154,10 +154,10 @@ fn a_frame_that_passes() {
 fn records_at_their_limits() {
     let mut pair = loaded(&[0x00]);
     let mut longest = [0xff; RECORD];
-    longest[0] = 62;
+    longest[0] = 126;
     assert_eq!(pair.frame(&longest, ENOUGH).answer, BROKE);
     let mut too_long = [0; RECORD];
-    too_long[0] = 63;
+    too_long[0] = 127;
     let reply = pair.frame(&too_long, ENOUGH);
     assert_eq!((reply.answer, reply.number), (REFUSED, 8));
     let mut not_zero = [0; RECORD];

@@ -16,7 +16,8 @@ use std::process::Command;
 use uxn_filter_harness::admissions::Admissions;
 use uxn_filter_harness::assembler::assemble;
 use uxn_filter_harness::calls::{
-    ADMITTED, ADMIT_LIMIT, LOADED, PROGRAM_LIMIT, PROGRAM_START, RECORD, REFUSED, SHEET_RECORD,
+    ADMITTED, ADMIT_LIMIT, BROKE, LOADED, OLD_RECORD, PROGRAM_LIMIT, PROGRAM_START, RECORD,
+    REFUSED, SHEET_RECORD,
 };
 use uxn_filter_harness::filters::{after, forbidden_bytes};
 use uxn_filter_harness::library;
@@ -36,8 +37,8 @@ const KINDS: [&str; 7] = [
     "filter", "bytes", "records", "verdicts", "sheet", "refused", "console",
 ];
 /// Examples and refused programs that the page has to have.
-const EXAMPLES: [&str; 9] = [
-    "all", "node", "value", "table", "check", "third", "peak", "range", "digits",
+const EXAMPLES: [&str; 10] = [
+    "all", "node", "value", "table", "check", "pairs", "third", "peak", "range", "digits",
 ];
 const REFUSALS: [&str; 31] = [
     "empty",
@@ -73,6 +74,8 @@ const REFUSALS: [&str; 31] = [
     "levels",
 ];
 const NOT_ADMITTED: u8 = 11;
+/// As many data bytes as a record can have.
+const MOST: usize = RECORD - 2;
 /// Stands at the instruction that the line of a refused program names.
 const FAULT: &str = "<-";
 /// Where the line tells of another way, this comes after it.
@@ -212,6 +215,18 @@ fn record(text: &str) -> [u8; RECORD] {
     bytes.try_into().unwrap()
 }
 
+/// A record of node 05 with so many bytes of data: all the same, but for the last.
+fn data(length: usize, byte: u8, last: u8) -> [u8; RECORD] {
+    let mut record = [0; RECORD];
+    record[..2].copy_from_slice(&[length as u8, 5]);
+    let data = &mut record[2..2 + length];
+    data.fill(byte);
+    if let Some(end) = data.last_mut() {
+        *end = last;
+    }
+    record
+}
+
 // The examples
 
 #[test]
@@ -264,18 +279,168 @@ fn the_examples_give_their_lines() {
 #[test]
 fn the_frame_in_memory() {
     let rows = table("| address | what stands there |");
-    let at = rows[..3].iter().map(|row| {
-        let address = row[0].split_whitespace().next().unwrap();
-        usize::from_str_radix(address, 16).expect("an address")
-    });
+    let number = |word: Option<&str>| {
+        let word = word.expect("an address");
+        usize::from_str_radix(word, 16).expect("an address")
+    };
+    let at: Vec<usize> = rows[..3]
+        .iter()
+        .map(|row| number(row[0].split_whitespace().next()))
+        .collect();
+    let last = number(rows[3][0].split_whitespace().last());
     let mut pair = Pair::new(0);
     pair.load(&[BRK]);
-    let record = record("02 05 12 34");
-    pair.frame(&record, BUDGET);
-    let memory = pair.bytes(Part::Memory);
-    let found: Vec<u8> = at.map(|at| memory[at]).collect();
-    assert_eq!(found, [0x02, 0x05, 0x12], "length, node number, data");
-    assert_eq!(memory[0x80..=0xbf], record);
+    for record in [record("02 05 12 34"), data(MOST, 0x12, 0x34)] {
+        pair.frame(&record, BUDGET);
+        let memory = pair.bytes(Part::Memory);
+        let found: Vec<u8> = at.iter().map(|&at| memory[at]).collect();
+        assert_eq!(found, record[..3], "length, node number, data");
+        assert_eq!(memory[at[0]..=last], record);
+    }
+}
+
+/// What the table says of the zero page: its first row stays from frame to frame, its second is the
+/// record, and there is no more.
+#[test]
+fn the_zero_page_from_frame_to_frame() {
+    let rows = table("| what the filter finds | after a load | when a frame comes |");
+    let ends = rows[..2].iter().flat_map(|row| {
+        let (first, last) = row[0].split_once(" .. ").expect("from .. to");
+        [first, last].map(|end| usize::from_str_radix(end, 16).expect("an address"))
+    });
+    let [first, kept, frame, last] = ends.collect::<Vec<_>>()[..] else {
+        panic!("two rows");
+    };
+    assert_eq!((first, kept + 1, last), (0, frame, 0xff));
+    let bytes = format!(
+        "remember {} bytes in the zero page, {}.",
+        kept + 1,
+        rows[0][0]
+    );
+    assert!(page().contains(&bytes), "{bytes:?}");
+
+    let mut pair = Pair::new(0);
+    pair.load(&[BRK]);
+    assert_eq!(pair.bytes(Part::Memory)[..=last], [0; 256]);
+    let before: Vec<u8> = (1..=kept as u8 + 1).collect();
+    pair.put(Part::Memory, first, &before);
+    for record in [
+        data(MOST, 0x12, 0x34),
+        record("00 05"),
+        data(MOST, 0xff, 0xff),
+    ] {
+        pair.frame(&record, BUDGET);
+        let memory = pair.bytes(Part::Memory);
+        assert_eq!(memory[..=kept], before);
+        assert_eq!(memory[frame..=last], record);
+    }
+}
+
+// The end of the data
+
+/// The page's test for an address is right for every L and every address of the zero page.
+#[test]
+fn whether_a_data_byte_stands_there() {
+    let test = "DUP LIT 82 SUB LIT 80 LDZ LTH";
+    assert!(page().contains(test), "{test:?}");
+    let mut pair = Pair::new(0);
+    for at in 0..=0xff {
+        let words = format!("LIT {at:02x} {test} LIT F2 DEO BRK");
+        let code = assembled(&words);
+        assert_eq!(Admissions::new(0).admit(&code), ADMITTED);
+        pair.load(&code);
+        for length in 0..=MOST {
+            let reply = pair.frame(&data(length, 0, 0), BUDGET);
+            let there = (0x82..0x82 + length).contains(&at);
+            assert_eq!(reply.verdict, u8::from(there), "{at:02X}, L = {length}");
+        }
+    }
+}
+
+/// The loops look at all the data, whatever L is, and at nothing else: what the filter keeps does not
+/// count.
+#[test]
+fn the_loops_end_where_the_data_ends() {
+    let cases = [
+        ("check", 0x00, 0x01, 0x00),
+        ("peak", 0x64, 0x65, 0x64),
+        ("pairs", 0x01, 0x07, 0x01),
+    ];
+    for (name, byte, sought, other) in cases {
+        let mut pair = Pair::new(0);
+        pair.load(&hexadecimal(&block("bytes", name).unwrap()));
+        pair.put(Part::Memory, 0, &[sought; 0x80]);
+        for length in 0..=MOST {
+            let there = pair.frame(&data(length, byte, sought), BUDGET);
+            let not = pair.frame(&data(length, byte, other), BUDGET);
+            // One passes, and the other one does not. Of pairs the last byte may be a value.
+            let differ = length > 0 && (name != "pairs" || length % 2 == 1);
+            assert_eq!(there.verdict != not.verdict, differ, "{name}, L = {length}");
+            assert_eq!(
+                [there.answer, not.answer],
+                [BROKE; 2],
+                "{name}, L = {length}"
+            );
+        }
+    }
+}
+
+/// The example `pairs` with the comparison that the page calls wrong: what becomes of its records.
+#[test]
+fn the_end_of_the_data_by_order() {
+    let [right, wrong] = ["LIT 82 SUB LIT 80 LDZ LTH", "LIT 80 LDZ LIT 82 ADD LTH"];
+    assert!(page().contains(&format!("{wrong} at 0103 .. 0109")));
+    let [right, wrong] = [right, wrong].map(assembled);
+    let mut code = hexadecimal(&block("bytes", "pairs").unwrap());
+    let test = place(0x0103)..=place(0x0109);
+    assert_eq!(code[test.clone()], right);
+    code.splice(test, wrong);
+    assert_eq!(Admissions::new(0).admit(&code), ADMITTED);
+
+    let rows = block("records", "pairs").unwrap();
+    let mut lines = String::new();
+    let mut said: Vec<u32> = Vec::new();
+    let mut records = Vec::new();
+    for row in rows.lines().map(cells) {
+        let record = record(&row[0]);
+        let (line, steps) = match record[0] {
+            126 => ("drop", 9),
+            125 => ("spent", BUDGET),
+            _ => (&*row[1], row[2].parse().unwrap()),
+        };
+        lines += &format!("{line}\n");
+        said.push(steps);
+        records.push(record);
+    }
+    let lengths: Vec<u8> = records.iter().map(|record| record[0]).collect();
+    assert_eq!(lengths.iter().filter(|&&length| length == 126).count(), 2);
+    assert_eq!(lengths.iter().filter(|&&length| length == 125).count(), 1);
+    let steps = assert_lines("pairs_by_order", &code, &records, &lines);
+    assert_eq!(steps, said);
+}
+
+/// Two old records, taken for one.
+#[test]
+fn old_records_taken_for_new_ones() {
+    let node = hexadecimal(&block("bytes", "node").unwrap());
+    let old = |text: &str| {
+        let mut bytes = hexadecimal(text);
+        bytes.resize(OLD_RECORD, 0);
+        bytes
+    };
+    let mut lines = String::new();
+    let mut records = Vec::new();
+    for (one, other, line) in [
+        ("01 05 7A", "01 06 7A", "refused 8"),
+        ("3E 05 01 x62", "00 05", "refused 8"),
+        ("01 05 7A", "00 00", "pass"),
+        ("3E 06 01 x62", "00 00", "drop"),
+    ] {
+        let both = [old(one), old(other)].concat();
+        records.push(both.try_into().expect("as long as a record"));
+        lines += &format!("{line}\n");
+    }
+    assert_lines("old_records", &node, &records, &lines);
 }
 
 /// The bytes of instructions without jumps, in the page's words.
@@ -485,7 +650,7 @@ fn refused_programs_and_the_same_mended() {
         assert_eq!(*head, "admitted", "the last part of {name}");
         let code = assert_admitted(&name, mended);
         let mut watch = Watch::admitted(&code).unwrap();
-        for frame in [record("00"), record("3E 05 01 x62")] {
+        for frame in [record("00"), data(MOST, 1, 1)] {
             watch.frame(&frame, BUDGET).unwrap();
         }
         assert!(!wrong.is_empty(), "{name}: nothing is refused");
@@ -519,11 +684,11 @@ fn the_numbers_of_the_table() {
         assert_eq!(pair.load(&vec![0; length]).number, number);
     }
     pair.load(&[BRK]);
-    for length in [0, 63, 65, 128] {
+    for length in [0, OLD_RECORD, RECORD - 1, RECORD + 1, 2 * RECORD] {
         let reply = pair.frame(&vec![0; length], BUDGET);
         assert_eq!((reply.answer, reply.number), (REFUSED, 7));
     }
-    for wrong in ["3F 05", "00 05 01", "3D 05 01 x62"] {
+    for wrong in ["7F 05", "FF 05", "00 05 01", "7D 05 01 x126"] {
         let reply = pair.frame(&record(wrong), BUDGET);
         assert_eq!((reply.answer, reply.number), (REFUSED, 8));
     }

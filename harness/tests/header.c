@@ -76,6 +76,18 @@ static void say_move(const char *call, uxn_written w, const uint8_t *output, siz
     printf("\n");
 }
 
+/* The bytes of the output that are not 0, each with its place. */
+static void say_records(const char *call, uxn_written w, const uint8_t *output, size_t output_length)
+{
+    size_t place;
+
+    printf("%s: length %u, line %u, number %u, output", call, (unsigned)w.length, (unsigned)w.line, w.number);
+    for (place = 0; place < output_length; place++)
+        if (output[place] != 0)
+            printf(" %u:%02x", (unsigned)place, output[place]);
+    printf("\n");
+}
+
 int main(void)
 {
     /* port F2 gets 1, then BRK: every frame is passed */
@@ -96,9 +108,11 @@ int main(void)
     /* a marked record and one that is not marked; the same with a routine of its own */
     static const uint8_t old[] = {1, 2, 3, 0xa0, 0, 0, 0, 0xf2};
     static const uint8_t called[] = {1, 2, 3, 0xa0, 2, 0, 0, 0};
-    uint8_t wide[18], narrow[9];
+    /* a record with data and one without, in the old form; the rest of them is zero */
+    static const uint8_t old_records[2 * 64] = {3, 5, 7, 8, 9};
+    uint8_t wide[18], narrow[9], wide_records[2 * 128 + 2], narrow_records[2 * 64 + 1];
     uint8_t sheet[8 * sizeof program];
-    uint8_t record[64];
+    uint8_t record[128];
     uxn_machine machine = {0x1234, 5, 6, 7, 8};
     uxn_reply reply;
     size_t n;
@@ -185,5 +199,21 @@ int main(void)
     printf("narrow: %d\n", uxn_narrow_sheet(old, sizeof old, narrow, 0).number == UXN_SHEET_FORM);
     printf("narrow: %d\n", uxn_narrow_sheet(called, sizeof called, narrow, 0).number == UXN_SHEET_ROUTINE);
     printf("narrow: %d\n", uxn_narrow_sheet(wide, 16, narrow, 7).number == UXN_OUTPUT_LENGTH);
+
+    memset(wide_records, 7, sizeof wide_records);
+    memset(narrow_records, 7, sizeof narrow_records);
+    say_records("widen records", uxn_widen_records(old_records, sizeof old_records, wide_records, sizeof wide_records), wide_records,
+                sizeof wide_records);
+    say_records("narrow records", uxn_narrow_records(wide_records, 2 * 128, narrow_records, sizeof narrow_records), narrow_records,
+                sizeof narrow_records);
+    printf("widen records: %d\n", uxn_widen_records(old_records, 127, wide_records, 0).number == UXN_RECORDS_LENGTH);
+    printf("widen records: %d\n", uxn_widen_records(old_records, 128, wide_records, 255).number == UXN_OUTPUT_LENGTH);
+    printf("narrow records: %d\n", uxn_narrow_records(wide_records, 255, narrow_records, 0).number == UXN_RECORDS_LENGTH);
+    printf("narrow records: %d\n", uxn_narrow_records(wide_records, 256, narrow_records, 127).number == UXN_OUTPUT_LENGTH);
+    wide_records[128] = 63;
+    printf("narrow records: %d\n", uxn_narrow_records(wide_records, 256, narrow_records, 0).number == UXN_RECORD_TOO_LONG);
+    wide_records[127] = 1;
+    printf("narrow records: %d\n", uxn_narrow_records(wide_records, 256, narrow_records, 0).number == UXN_RECORD_FORM);
+    printf("widen records: %d\n", uxn_widen_records(wide_records, 192, narrow_records, 0).number == UXN_RECORD_FORM);
     return 0;
 }

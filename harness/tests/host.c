@@ -118,11 +118,11 @@ static uxn_reply event(uxn_reply *through)
 
 static uxn_reply frame(uxn_reply *through)
 {
-    uint8_t record[65] = {0};
-    uint32_t data = below(80), length = below(4) ? 64 : 60 + below(6), budget = below(200);
+    uint8_t record[129] = {0};
+    uint32_t data = below(160), length = below(4) ? 128 : 124 + below(6), budget = below(200);
 
     record[0] = (uint8_t)data;
-    fill(record + 1, data < 62 ? 1 + data : 63);
+    fill(record + 1, data < 126 ? 1 + data : 127);
     *through = uxn_host_frame(&host, record, length, budget);
     return uxn_frame(machine, BUFFERS, record, length, budget);
 }

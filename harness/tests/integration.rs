@@ -143,6 +143,7 @@ fn the_programs_print_what_the_page_says() {
         ("c", "calls.c", "calls.c", gcc),
         ("c", "why.c", "why.c", gcc),
         ("c", "sheets.c", "sheets.c", gcc),
+        ("c", "records.c", "records.c", gcc),
     ] {
         let expected = &block(&blocks, "text", printed).text;
         assert!(expected.lines().count() > 4, "too little is printed");
@@ -150,7 +151,7 @@ fn the_programs_print_what_the_page_says() {
         let commands = &block(&blocks, "sh", name).text;
         assert!(commands.starts_with(compiler), "{commands:?}");
     }
-    assert_eq!(blocks.len(), 17, "a block that is not tested");
+    assert_eq!(blocks.len(), 20, "a block that is not tested");
 }
 
 // Constants and layout
@@ -512,7 +513,7 @@ fn calls_set_what_the_page_says() {
     let mut own = dirty.clone();
     let framed = calls::frame(given, own.lend(), &record, 0);
     let mut expected = dirty.clone();
-    expected.memory[0x0080..0x00c0].copy_from_slice(&record);
+    expected.memory[0x0080..0x0100].copy_from_slice(&record);
     expected.device_page[0xf2] = 0;
     assert_eq!((framed.answer, framed.machine), (SPENT, start));
     assert!(own == expected, "frame");

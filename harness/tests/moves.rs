@@ -3,14 +3,12 @@
 //! cut off, long sheets, and moves there and back. The library must agree with the moves below, which
 //! are written from the request alone, in the reply and in every byte of the output and beside it.
 
-use uxn_filter_harness::calls::{Written, OLD_RECORD, SHEET_RECORD};
+use uxn_filter_harness::calls::{OLD_SHEET_RECORD, SHEET_RECORD};
 use uxn_filter_harness::library::{narrow_sheet, widen_sheet};
-use uxn_filter_harness::pair::say;
+use uxn_filter_harness::moves::{each_of, refused, written, Due, Moves, Way};
 use uxn_filter_harness::random::{seed, Random};
 
 const FIRST_ROUTINE: u16 = 0x0100;
-/// Bytes on both sides of a lent output, which no call may touch.
-const GUARD: usize = 24;
 
 // The moves, a second time
 
@@ -52,7 +50,7 @@ impl Record {
         }
     }
 
-    fn in_old(self) -> Option<[u8; OLD_RECORD]> {
+    fn in_old(self) -> Option<[u8; OLD_SHEET_RECORD]> {
         match self {
             Record::Unmarked { byte } => Some([0, 0, 0, byte]),
             Record::Marked {
@@ -79,11 +77,11 @@ impl Record {
     }
 }
 
-type Due = Result<Vec<u8>, u8>;
-
-/// The bytes that are written into an output with room, or the number.
 fn due_new(sheet: &[u8]) -> Due {
-    let records: Option<Vec<Record>> = sheet.chunks(OLD_RECORD).map(Record::from_old).collect();
+    let records: Option<Vec<Record>> = sheet
+        .chunks(OLD_SHEET_RECORD)
+        .map(Record::from_old)
+        .collect();
     Ok(records
         .ok_or(18)?
         .into_iter()
@@ -99,28 +97,11 @@ fn due_old(sheet: &[u8]) -> Due {
 
 // Both side by side
 
-struct Moves {
-    random: Random,
-    calls: u64,
-    /// How often each number came: 0, 13, 18, 19.
-    seen: [u64; 20],
-}
-
-/// A move of the library, what is due, and the most that it writes for a sheet of this length.
-#[derive(Clone, Copy)]
-struct Way {
-    name: &'static str,
-    call: fn(&[u8], &mut [u8]) -> Written,
-    due: fn(&[u8]) -> Due,
-    size: usize,
-    most: fn(usize) -> usize,
-}
-
 const WIDEN: Way = Way {
     name: "to the new form",
     call: widen_sheet,
     due: due_new,
-    size: OLD_RECORD,
+    size: OLD_SHEET_RECORD,
     most: |length| 2 * length,
 };
 const NARROW: Way = Way {
@@ -131,118 +112,21 @@ const NARROW: Way = Way {
     most: |length| length / 2,
 };
 
-impl Moves {
-    fn new(seed: u64) -> Moves {
-        Moves {
-            random: Random::new(seed),
-            calls: 0,
-            seen: [0; 20],
-        }
-    }
+fn moves() -> Moves {
+    Moves::new(seed(), [WIDEN, NARROW])
+}
 
-    /// One call with an output of this length, compared in everything; answers what it wrote.
-    fn moved(&mut self, way: Way, sheet: &[u8], length: usize) -> Due {
-        let mut lent = vec![0; GUARD + length + GUARD];
-        self.random.fill(&mut lent);
-        let mut expected = lent.clone();
-        let given = sheet.to_vec();
-        let due = match (way.due)(sheet) {
-            Ok(bytes) if length < bytes.len() => Err(13),
-            other => other,
-        };
-        let reply = match &due {
-            Ok(bytes) => {
-                expected[GUARD..GUARD + bytes.len()].copy_from_slice(bytes);
-                Written {
-                    length: bytes.len(),
-                    line: 0,
-                    number: 0,
-                }
-            }
-            Err(number) => Written {
-                length: 0,
-                line: 0,
-                number: *number,
-            },
-        };
-        let found = (way.call)(&given, &mut lent[GUARD..GUARD + length]);
-        let shown = &sheet[..sheet.len().min(64)];
-        let what = format!(
-            "move {} of {} bytes, {shown:02x?}, into {length}",
-            way.name,
-            sheet.len()
-        );
-        assert_eq!(found, reply, "{what}");
-        assert!(lent == expected, "the output of the {what}");
-        assert!(given == sheet, "the sheet of the {what}");
-        self.calls += 1;
-        self.seen[usize::from(reply.number)] += 1;
-        due
-    }
-
-    fn compare(&mut self, way: Way, sheet: &[u8], length: usize) {
-        let _ = self.moved(way, sheet, length);
-    }
-
-    /// Outputs just too short, just long enough, longer, and empty.
-    fn around(&mut self, way: Way, sheet: &[u8]) {
-        let most = (way.most)(sheet.len());
-        for length in [0, most.saturating_sub(1), most, most + 1, most + 9] {
-            self.compare(way, sheet, length);
-        }
-    }
-
-    fn both(&mut self, sheet: &[u8]) {
-        self.around(WIDEN, sheet);
-        self.around(NARROW, sheet);
-    }
-
-    fn say_total(&self, test: &str) {
-        let seen = |number: usize| self.seen[number];
-        say(&format!(
-            "{test}: {} moves compared, {} written, {} refused with 13, {} with 18, {} with 19",
-            self.calls,
-            seen(0),
-            seen(13),
-            seen(18),
-            seen(19)
-        ));
-        for number in [0, 13, 18, 19] {
-            assert!(seen(number) > 0, "{test}: no move answers {number}");
-        }
-    }
+fn say_total(moves: &Moves, test: &str) {
+    moves.say_total(test, &[0, 13, 18, 19]);
 }
 
 // Short sheets
-
-/// Every sheet of this length with bytes from this list.
-fn each_sheet(alphabet: &[u8], length: usize, mut with: impl FnMut(&[u8])) {
-    let mut places = vec![0; length];
-    let mut sheet = vec![alphabet[0]; length];
-    loop {
-        with(&sheet);
-        let Some(place) = (0..length).find(|&place| places[place] + 1 < alphabet.len()) else {
-            return;
-        };
-        for before in 0..place {
-            places[before] = 0;
-            sheet[before] = alphabet[0];
-        }
-        places[place] += 1;
-        sheet[place] = alphabet[places[place]];
-    }
-}
 
 #[test]
 fn worked_cases() {
     let old = [1, 2, 3, 0xa0, 0, 0, 0, 0xf2];
     let new = [1, 2, 3, 0xa0, 1, 0, 0, 0, 0, 0, 0, 0xf2, 0, 0, 0, 0];
     let mut output = [7; 18];
-    let written = |length| Written {
-        length,
-        line: 0,
-        number: 0,
-    };
     assert_eq!(widen_sheet(&old, &mut output), written(16));
     assert_eq!(output[..16], new);
     assert_eq!(output[16..], [7, 7]);
@@ -251,7 +135,7 @@ fn worked_cases() {
     assert_eq!(output, [1, 2, 3, 0xa0, 0, 0, 0, 0xf2, 7]);
     assert_eq!(widen_sheet(&[], &mut []), written(0));
     assert_eq!(narrow_sheet(&[], &mut []), written(0));
-    let refused: [(Way, &[u8], u8); 12] = [
+    let wrong: [(Way, &[u8], u8); 12] = [
         (WIDEN, &[0, 0, 0], 18),
         (WIDEN, &[2, 0, 0, 0], 18),
         (WIDEN, &[0, 1, 0, 0], 18),
@@ -269,26 +153,25 @@ fn worked_cases() {
         (NARROW, &[1, 0, 0, 0, 2, 0, 0, 0], 19),
         (NARROW, &[1, 0, 0, 0, 1, 0, 0, 0], 13),
     ];
-    for (way, sheet, number) in refused {
+    for (way, sheet, number) in wrong {
         let mut output = [7; 3];
-        let reply = Written {
-            length: 0,
-            line: 0,
-            number,
-        };
-        assert_eq!((way.call)(sheet, &mut output), reply, "{sheet:02x?}");
+        assert_eq!(
+            (way.call)(sheet, &mut output),
+            refused(number),
+            "{sheet:02x?}"
+        );
         assert_eq!(output, [7; 3], "{sheet:02x?}");
     }
 }
 
 #[test]
 fn short_sheets_of_few_different_bytes() {
-    let mut moves = Moves::new(seed());
+    let mut moves = moves();
     for length in 0..=8 {
-        each_sheet(&[0, 1, 2], length, |sheet| moves.both(sheet));
+        each_of(&[0, 1, 2], length, |sheet| moves.both(sheet));
     }
     for length in 9..=16 {
-        each_sheet(&[0, 1], length, |sheet| moves.both(sheet));
+        each_of(&[0, 1], length, |sheet| moves.both(sheet));
     }
     // All lengths: one byte at a time is another one.
     for length in 0..=40 {
@@ -304,12 +187,12 @@ fn short_sheets_of_few_different_bytes() {
             }
         }
     }
-    moves.say_total("short sheets");
+    say_total(&moves, "short sheets");
 }
 
 #[test]
 fn every_value_of_every_byte() {
-    let mut moves = Moves::new(seed());
+    let mut moves = moves();
     let sheets: [&[u8]; 6] = [
         &[0, 0, 0, 9],
         &[1, 200, 255, 9],
@@ -328,16 +211,16 @@ fn every_value_of_every_byte() {
             changed[place] = sheet[place];
         }
     }
-    moves.say_total("every byte");
+    say_total(&moves, "every byte");
 }
 
 #[test]
 fn every_routine() {
-    let mut moves = Moves::new(seed());
+    let mut moves = moves();
     for routine in 0..=u16::MAX {
         let [high, low] = routine.to_be_bytes();
         for mark in [0, 1] {
-            moves.compare(NARROW, &[mark, 0, 0, 5, high, low, 0, 0], OLD_RECORD);
+            moves.compare(NARROW, &[mark, 0, 0, 5, high, low, 0, 0], OLD_SHEET_RECORD);
         }
     }
     assert_eq!(moves.seen[0], 2, "unmarked with 0, marked with 0100");
@@ -350,7 +233,7 @@ fn every_routine() {
 // Lists of records
 
 /// Records of the old form, the first three good.
-const OLD: [[u8; OLD_RECORD]; 7] = [
+const OLD: [[u8; OLD_SHEET_RECORD]; 7] = [
     [0, 0, 0, 0x80],
     [1, 0, 0, 0x80],
     [1, 255, 254, 0],
@@ -377,38 +260,20 @@ const NEW: [[u8; SHEET_RECORD]; 13] = [
     [0, 0, 0, 0x80, 0, 0, 0, 1],
 ];
 
-/// Every list of at most three of these records, whole and with bytes of the last one cut off.
-fn each_list(moves: &mut Moves, way: Way, records: &[&[u8]]) {
-    let kinds: Vec<u8> = (0..records.len() as u8).collect();
-    for length in 0..=3 {
-        each_sheet(&kinds, length, |list| {
-            let list: Vec<&[u8]> = list
-                .iter()
-                .map(|&kind| records[usize::from(kind)])
-                .collect();
-            let sheet = list.concat();
-            moves.around(way, &sheet);
-            for cut in 1..way.size.min(sheet.len()) {
-                moves.around(way, &sheet[..sheet.len() - cut]);
-            }
-        });
-    }
-}
-
 #[test]
 fn lists_of_records_of_every_kind() {
-    let mut moves = Moves::new(seed());
+    let mut moves = moves();
     let old: Vec<&[u8]> = OLD.iter().map(|record| &record[..]).collect();
     let new: Vec<&[u8]> = NEW.iter().map(|record| &record[..]).collect();
-    each_list(&mut moves, WIDEN, &old);
-    each_list(&mut moves, NARROW, &new);
-    moves.say_total("lists of records");
+    moves.each_list(WIDEN, &old, 3);
+    moves.each_list(NARROW, &new, 3);
+    say_total(&moves, "lists of records");
 }
 
 // Long sheets, there and back
 
 /// A good record of the old form.
-fn good(random: &mut Random) -> [u8; OLD_RECORD] {
+fn good(random: &mut Random) -> [u8; OLD_SHEET_RECORD] {
     let [work, ret, byte] = [random.byte(), random.byte(), random.byte()];
     if random.one_in(2) {
         [1, work, ret, byte]
@@ -420,7 +285,7 @@ fn good(random: &mut Random) -> [u8; OLD_RECORD] {
 #[test]
 fn long_sheets_there_and_back() {
     let seed = seed();
-    let mut moves = Moves::new(seed);
+    let mut moves = moves();
     let mut random = Random::new(seed);
     for round in 0..600 {
         // Few records, some thousands, and once more than 65,536.
@@ -460,5 +325,5 @@ fn long_sheets_there_and_back() {
             }
         }
     }
-    moves.say_total(&format!("long sheets, seed {seed}"));
+    say_total(&moves, &format!("long sheets, seed {seed}"));
 }

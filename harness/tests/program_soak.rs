@@ -21,7 +21,7 @@ use uxn_filter_harness::calls::{ADMIT_LIMIT, PROGRAM_LIMIT, RECORD};
 use uxn_filter_harness::filters::{any, any_length, filter};
 use uxn_filter_harness::linked::{
     self, after, calling, ends, expected_lines, expected_sheet, feed, file, frames, pipe, quick,
-    random_record, said_at_end, same, sheet, Written, INPUT, IS_FOLDER, NOT_READ, NO_FILE,
+    random_record, said_at_end, same, sheet, Written, BLOCK, INPUT, IS_FOLDER, NOT_READ, NO_FILE,
     NO_READER, NO_SPACE, OUTPUT, SIGPIPE,
 };
 use uxn_filter_harness::programs::{either, random_bytes};
@@ -423,11 +423,10 @@ fn any_program(random: &mut Random) -> (Vec<u8>, bool) {
 
 /// Records of every kind, and bytes of a part record.
 fn any_records(random: &mut Random, is_quick: bool) -> Vec<u8> {
-    let block = 1_024;
     let count = match random.below(10) {
         0 => 0,
-        1 => block - 2 + random.below(4),
-        2 if is_quick => 2 * block - 2 + random.below(4),
+        1 => BLOCK - 2 + random.below(4),
+        2 if is_quick => 2 * BLOCK - 2 + random.below(4),
         3 if is_quick => random.below(10_000),
         _ => random.below(60),
     };
@@ -485,7 +484,7 @@ fn frames_run(seed: u64, folder: &Path, total: &mut Total, huge: bool) {
     }
     let mut bytes = match huge {
         true => {
-            let count = 300_000 + random.below(600_000);
+            let count = 150_000 + random.below(300_000);
             records(random, count)
         }
         false => any_records(random, is_quick),

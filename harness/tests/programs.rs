@@ -25,7 +25,7 @@ use uxn_filter_harness::filters::{
 use uxn_filter_harness::linked::{
     self, after, assert_writes, assert_written, calling, ends, expected_explained, expected_frames,
     expected_lines, expected_sheet, explain, file, frames, lines_of, pipe, program, quick,
-    random_record, run, run_in_pieces, said_at_end, sheet, sheet_of, Written, BUDGET, INPUT,
+    random_record, run, run_in_pieces, said_at_end, sheet, sheet_of, Written, BLOCK, BUDGET, INPUT,
     IS_FOLDER, NOT_OPEN, NOT_READ, NO_FILE, NO_READER, NO_SPACE, OUTPUT, PASSES, PATIENCE, SIGPIPE,
 };
 use uxn_filter_harness::listing::{self, hexadecimal, listing, Listed};
@@ -236,7 +236,7 @@ fn the_longest_program_is_loaded_whole() {
 fn lengths_of_record_files() {
     let folder = folder("lengths_of_record_files");
     let passes = file(&folder, "passes.rom", &PASSES);
-    for length in [65_535, 65_536, 65_537, 65_599, 65_600, 131_072, 200_000] {
+    for length in [65_535, 65_536, 65_537, 65_663, 65_664, 131_072, 200_000] {
         let records = file(&folder, "records.bin", &vec![0; length]);
         assert_eq!(
             lines_of(&passes, &records),
@@ -253,13 +253,13 @@ fn part_records() {
     let filter = quick();
     let rom = file(&folder, "filter.rom", &filter);
     let mut random = Random::new(seed());
-    let whole: Vec<u8> = (0..1_024)
+    let whole: Vec<u8> = (0..BLOCK)
         .flat_map(|_| random_record(&mut random))
         .collect();
     for length in 0..RECORD {
         let mut part = vec![0; length];
         random.fill(&mut part);
-        for count in [0, 1, 3, 1_024] {
+        for count in [0, 1, 3, BLOCK] {
             let bytes = [&whole[..RECORD * count], &part].concat();
             let records = file(&folder, "records.bin", &bytes);
             let expected = expected_frames(&filter, &bytes, &records);
@@ -288,7 +288,7 @@ fn ten_megabytes_of_records() {
     while bytes.len() < 10_000_000 {
         bytes.extend(random_record(&mut random));
     }
-    bytes.extend([0; 63]);
+    bytes.extend([0; RECORD - 1]);
     let records = file(&folder, "records.bin", &bytes);
     let filter = quick();
     let rom = file(&folder, "filter.rom", &filter);
@@ -368,7 +368,7 @@ fn records_in_pieces() {
     let mut records = fs::read(example("records.bin")).unwrap();
     records.extend([0; 40]);
     let expected = expected_frames(&filter, &records, STDIN);
-    for piece in [1, 7, 63, 64, 65, 100] {
+    for piece in [1, 7, 64, 127, 128, 129, 200] {
         let output = run_in_pieces(
             frames().arg(example("filter.rom")).arg(STDIN),
             &records,
@@ -519,7 +519,7 @@ fn a_read_that_fails() {
     };
 
     let passes = file(&folder, "passes.rom", &PASSES);
-    for length in [0, 1, 63] {
+    for length in [0, 1, RECORD - 1] {
         let bytes = vec![0; 3 * RECORD + length];
         let records = file(&folder, "records.bin", &bytes);
         let all = expected_frames(&PASSES, &bytes, &records);
@@ -1187,7 +1187,7 @@ fn valgrind_has_nothing_to_say() {
     // A program of every kind with some records, more than a block with a short one.
     let quick = file(&folder, "quick.rom", &quick());
     let calls = file(&folder, "calling.rom", &calling());
-    let mut bytes: Vec<u8> = (0..1_030)
+    let mut bytes: Vec<u8> = (0..BLOCK + 6)
         .flat_map(|_| random_record(&mut random))
         .collect();
     let many = file(&folder, "many.bin", &bytes);

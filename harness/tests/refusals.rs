@@ -3,7 +3,7 @@
 //! bytes beside each buffer are compared with every call.
 
 use uxn_filter_harness::calls::{
-    refused, Reply, MEMORY, NO_DEVICES, PROGRAM_LIMIT, RECORD, WATCH_NONE,
+    refused, Reply, MEMORY, NO_DEVICES, OLD_RECORD, PROGRAM_LIMIT, RECORD, WATCH_NONE,
 };
 use uxn_filter_harness::pair::{Pair, Part, RIGHT_LENGTHS};
 use uxn_filter_harness::random::{seed, Random};
@@ -100,7 +100,7 @@ fn events() {
 fn frames() {
     let good = vec![0; RECORD];
     let mut too_long = good.clone();
-    too_long[0] = 63;
+    too_long[0] = 127;
     let mut not_zero = good.clone();
     not_zero[2] = 1;
     let mut both = vec![0xff; RECORD];
@@ -108,6 +108,7 @@ fn frames() {
     let records = [
         (good, None),
         (vec![], Some(7)),
+        (vec![0; OLD_RECORD], Some(7)),
         (vec![0; RECORD - 1], Some(7)),
         (vec![0; RECORD + 1], Some(7)),
         (vec![0xff; RECORD + 1], Some(7)),

@@ -5,15 +5,16 @@
 use std::path::Path;
 use std::sync::{Mutex, PoisonError};
 
-use uxn_filter_harness::calls::{NO_PORTS, PAUSED, SPENT};
+use uxn_filter_harness::calls::{Machine, Owned, NO_PORTS, OLD_RECORD, PAUSED, RECORD, SPENT};
 use uxn_filter_harness::counting::{count_admissions, count_runs};
 use uxn_filter_harness::pair::say;
 use uxn_filter_harness::peers::{admissions, cores};
+use uxn_filter_harness::random::{seed, Random};
 use uxn_filter_harness::timing::{
     check_same_end, greatest_admission_ratio, mean_admission_ratio, mean_ratio, same_end,
     time_admissions, time_runs, Growth, Row, ADMITTED_LENGTHS,
 };
-use uxn_filter_harness::workloads::{workloads, SHAPES};
+use uxn_filter_harness::workloads::{filter, workloads, SHAPES};
 
 /// A step of the library over one of the best C peer: in the mean of the workloads, and in each.
 const STEP_BAR: f64 = 1.45;
@@ -111,6 +112,55 @@ fn the_peers_pause_as_the_library_does() {
         ports("straight", &[0x30, 0x32, 0x33]),
     ];
     assert_eq!(paused, expected.concat());
+}
+
+/// Frames one after the other: of every length byte, with a byte past the data, and of other sizes. Each
+/// core is given the same, and ends in the same state.
+#[test]
+fn the_peers_take_the_records_that_the_library_takes() {
+    let cores = cores();
+    let mut random = Random::new(seed());
+    let mut records: Vec<Vec<u8>> = [0, 1, OLD_RECORD, RECORD - 1, RECORD + 1, 2 * RECORD]
+        .map(|size| vec![0; size])
+        .to_vec();
+    for length in 0..=255u8 {
+        let past = (2 + usize::from(length)).min(RECORD);
+        let mut record = vec![0; RECORD];
+        random.fill(&mut record[..past]);
+        record[0] = length;
+        records.push(record.clone());
+        if past < RECORD {
+            record[past + random.below(RECORD - past)] = 1;
+            records.push(record.clone());
+            record[past..].fill(0);
+            record[RECORD - 1] = 1;
+            records.push(record);
+        }
+    }
+    let mut ends: Vec<(Machine, Owned)> = cores
+        .iter()
+        .map(|core| {
+            let mut owned = Owned::new();
+            let loaded = (core.load)(Machine::default(), owned.lend(), &filter());
+            (loaded.machine, owned)
+        })
+        .collect();
+    let mut refused = [0; 9];
+    for record in &records {
+        let mut replies = Vec::new();
+        for (core, (machine, owned)) in cores.iter().zip(&mut ends) {
+            let reply = (core.frame)(*machine, owned.lend(), record, 1_000);
+            *machine = reply.machine;
+            replies.push(reply);
+        }
+        for ((core, end), reply) in cores.iter().zip(&ends).zip(&replies) {
+            let same = *reply == replies[0] && *end == ends[0];
+            assert!(same, "{}: another end of {record:02x?}", core.name);
+        }
+        refused[usize::from(replies[0].number)] += 1;
+    }
+    // 126 lengths have room for a byte past the data; 127 and more are too long.
+    assert_eq!(refused, [127, 0, 0, 0, 0, 0, 0, 6, 2 * 126 + 129]);
 }
 
 #[test]

@@ -9,9 +9,11 @@
 #include "uxn_filter.h"
 
 static uint8_t memory[65536], device_page[256], working[256], ret[256];
-static uint8_t program[4096], sheet[8 * sizeof program], record[64];
+static uint8_t program[4096], sheet[8 * sizeof program], record[128];
 /* stored sheets, whose first record is marked and whose others are not, in the old form and in the new one */
 static const uint8_t narrow_sheet[4 * sizeof program] = {1, 0, 0, 0x80}, wide_sheet[8 * sizeof program] = {1, 0, 0, 0x80, 1};
+/* files of records with no data, in either form */
+static const uint8_t records[128 * 64];
 static size_t length;
 static uint8_t painted[131072];
 static ucontext_t host, guest;
@@ -30,6 +32,9 @@ static void admit(void) { uxn_admit(program, length, sheet, 8 * length); }
 static void explain(void) { uxn_explain(program, length); }
 static void widen(void) { uxn_widen_sheet(narrow_sheet, 4 * length, sheet, 8 * length); }
 static void narrow(void) { uxn_narrow_sheet(wide_sheet, 8 * length, sheet, 4 * length); }
+static size_t count(void) { return length < 64 ? length : 64; }
+static void widen_records(void) { uxn_widen_records(records, 64 * count(), sheet, 128 * count()); }
+static void narrow_records(void) { uxn_narrow_records(records, 128 * count(), sheet, 64 * count()); }
 
 static size_t taken(void (*call)(void), int paint)
 {
@@ -77,9 +82,17 @@ int main(void)
     static const struct {
         const char *name;
         void (*call)(void);
-    } calls[] = {{"uxn_load", load},       {"uxn_step", step},           {"uxn_run", run},
-                 {"uxn_event", event},     {"uxn_frame", frame},         {"uxn_admit", admit},
-                 {"uxn_explain", explain}, {"uxn_widen_sheet", widen}, {"uxn_narrow_sheet", narrow}};
+    } calls[] = {{"uxn_load", load},
+                 {"uxn_step", step},
+                 {"uxn_run", run},
+                 {"uxn_event", event},
+                 {"uxn_frame", frame},
+                 {"uxn_admit", admit},
+                 {"uxn_explain", explain},
+                 {"uxn_widen_sheet", widen},
+                 {"uxn_narrow_sheet", narrow},
+                 {"uxn_widen_records", widen_records},
+                 {"uxn_narrow_records", narrow_records}};
     size_t without = most(none), n;
 
     for (n = 0; n < sizeof calls / sizeof *calls; n++)

@@ -16,6 +16,7 @@ ghost use mathlib.Core.Path.{_≡_};
 ghost use Rattle.model.specs.Machine.{state};
 ghost use Rattle.model.specs.Calls.{loadCall, stepCall, runCall, eventCall, frameCall, admitCall};
 ghost use Rattle.model.specs.Moves.{widenCall, narrowCall};
+ghost use Rattle.model.specs.RecordMoves.{widenRecords, narrowRecords};
 ghost use Rattle.creply.specs.Exported.{watchOf, returned, exported, admitReturned, exportedAdmit, writeReturned, exportedWrite};
 ghost use Rattle.creply.specs.Why.{WhyOf};
 
@@ -132,4 +133,18 @@ pub extern "C" fn uxn_narrow_sheet(sheet: &[u8], output: &mut [u8]) -> Written
     ensures { λ r. ⌜ writeReturned r (now (output .exit)) ≡ exportedWrite (narrowCall (now (sheet .entry)) (now (output .entry))) ⌝ }
 {
     of_write(moves::narrow_sheet(sheet, output))
+}
+
+#[no_mangle]
+pub extern "C" fn uxn_widen_records(records: &[u8], output: &mut [u8]) -> Written
+    ensures { λ r. ⌜ writeReturned r (now (output .exit)) ≡ exportedWrite (widenRecords (now (records .entry)) (now (output .entry))) ⌝ }
+{
+    of_write(records::widen_records(records, output))
+}
+
+#[no_mangle]
+pub extern "C" fn uxn_narrow_records(records: &[u8], output: &mut [u8]) -> Written
+    ensures { λ r. ⌜ writeReturned r (now (output .exit)) ≡ exportedWrite (narrowRecords (now (records .entry)) (now (output .entry))) ⌝ }
+{
+    of_write(records::narrow_records(records, output))
 }

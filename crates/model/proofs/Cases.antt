@@ -13,7 +13,7 @@ use Rattle.model.specs.Run.Answer.{Admitted}
 use Rattle.model.specs.declared.Watch.{Watch}
 use Rattle.model.specs.Calls.{hasLength, unless, loadMost, load, loadCall, admitCall}
 use Rattle.model.specs.Demand3.{greatestOf}
-use Rattle.model.specs.Cases.{Case, claimed, allClaimed, used, loadAndRun, allHold, starred, mistakes, sentences, example, exampleSheet, callExample, callSheet, subroutines, marksRaised, portsWritten, depthsFine, depthsNot, callDepthsFine, callDepthsNot, depthsAre, rotateTests, callTests, numbered, agree, greatestDepths, summing, framesSeen, vectored, eventsSeen, wrapping, notWrapping, wrapsAre, moveCases, allCome}
+use Rattle.model.specs.Cases.{Case, claimed, allClaimed, used, loadAndRun, allHold, starred, mistakes, sentences, example, exampleSheet, callExample, callSheet, subroutines, marksRaised, portsWritten, depthsFine, depthsNot, callDepthsFine, callDepthsNot, depthsAre, rotateTests, callTests, numbered, agree, greatestDepths, summing, framesSeen, vectored, eventsSeen, wrapping, notWrapping, wrapsAre, moveCases, recordMoveCases, allCome}
 use Rattle.model.proofs.Tests.{and-left, and-right, and-both, not-true}
 use Rattle.model.proofs.Numbers.{load-right, load-passed, load-sized, run-passed}
 use Rattle.model.proofs.Computing.{stepping, admitting, calling, moving}
@@ -119,3 +119,7 @@ wraps-hold = (tt, tt)
 pub moves-hold : T (allCome moveCases)
 unfolding moveCases allCome moving
 moves-hold = tt
+
+pub record-moves-hold : T (allCome recordMoveCases)
+unfolding recordMoveCases allCome moving
+record-moves-hold = tt

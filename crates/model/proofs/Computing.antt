@@ -8,6 +8,7 @@ use Rattle.model.specs.Admission.{byteAt, allowed, afterOf, targetOf, su
 use Rattle.model.specs.Calls.{refusal, bufferRows, unless, loadRows, load, loadCall, stepCall, runCall, eventRows, vector, eventCall, wellFormed, frameRows, framed, frameCall, admitRows, admitBy, admitCall}
 use Rattle.model.specs.Writes.{writeUnless}
 use Rattle.model.specs.Moves.{wrongOld, wrongNew, staysNew, widened, narrowed, pieces, recordsOf, someRecord, eachRecord, wrongSheet, widenedSheet, narrowedSheet, widenRows, widenCall, narrowRows, narrowCall}
+use Rattle.model.specs.RecordMoves.{broken, tooLong, fitted, movedFile, fileRows, moveRows, moveCall}
 
 -- the row of a byte
 unfoldable pub decoding : Unit {0}
@@ -29,7 +30,7 @@ unfoldable pub calling : Unit {0}
 unfolding refusal bufferRows unless loadRows load loadCall stepCall runCall eventRows vector eventCall wellFormed frameRows framed frameCall admitRows admitBy admitCall run stepping admitting
 calling = tt
 
--- the moves of sheets
+-- the moves of sheets and of files of frame records
 unfoldable pub moving : Unit {0}
-unfolding refusal writeUnless widenCall widenRows narrowCall narrowRows widenedSheet narrowedSheet wrongSheet eachRecord someRecord recordsOf pieces wrongOld wrongNew staysNew widened narrowed word number
+unfolding refusal writeUnless widenCall widenRows narrowCall narrowRows widenedSheet narrowedSheet wrongSheet eachRecord someRecord recordsOf pieces wrongOld wrongNew staysNew widened narrowed word number moveCall moveRows fileRows movedFile fitted tooLong broken wellFormed
 moving = tt

@@ -1,4 +1,4 @@
--- The records of a sheet, and the two moves there and back. Assumes nothing.
+-- The records of a file, and the two moves of a sheet there and back. Assumes nothing.
 use mathlib.Core.Path.{_≡_, refl, sym, ap, _∙_}
 use mathlib.Core.Bool.{Bool, true, false, cond, not, _||_, true≢false}
 use mathlib.Core.List.{List, [], _∷_, _++_}
@@ -19,7 +19,7 @@ use Rattle.model.specs.Moves.{oldRecord, markByte, wrongOld, wrongNew, s
 use Rattle.model.proofs.Bytes.{take-bytes, drop-bytes, number-two}
 use Rattle.model.proofs.Numbers.{no-rows, passed-over, none-says, equal}
 
--- ---- the records of a sheet
+-- ---- the records of a file
 
 pub first-record : (size : ℕ) (sheet : List ℕ) → 0 < size → size ≤ length sheet
     → recordsOf size sheet ≡ take size sheet ∷ recordsOf size (drop size sheet)

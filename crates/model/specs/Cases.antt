@@ -17,6 +17,7 @@ use Rattle.model.specs.Run.Answer.{Refused, Loaded, WentOn, Broke, Spent
 use Rattle.model.specs.declared.Watch.{Watch}
 use Rattle.model.specs.Writes.{WriteResult, written, unwritten}
 use Rattle.model.specs.Moves.{widenCall, narrowCall}
+use Rattle.model.specs.RecordMoves.{widenRecords, narrowRecords}
 use Rattle.model.specs.Calls.{numberOf, frameSize, loadCall, stepCall, runCall, eventCall, frameCall, admitCall}
 use Rattle.model.specs.Demand3.{greatestDepth}
 
@@ -598,6 +599,43 @@ moveCases =
     -- "then 19 for one that can't go back", before 13
     ∷ (narrowCall (1 ∷ 0 ∷ 0 ∷ 0 ∷ 1 ∷ 1 ∷ 0 ∷ 0 ∷ []) [], unwritten 19 [])
     ∷ (narrowCall (1 ∷ 0 ∷ 0 ∷ 0 ∷ 2 ∷ 0 ∷ 0 ∷ 0 ∷ []) (zeros 4), unwritten 19 (zeros 4))
+    ∷ []
+
+-- C-16, moves of files of frame records: a record of the old form, and the calls
+
+-- length, node number, bytes, zeros to the end
+abbrev pub oldFrame : ℕ → List ℕ → List ℕ
+oldFrame l bytes = l ∷ 0x07 ∷ bytes ++ zeros (62 - length bytes)
+
+unfoldable pub recordMoveCases : List (WriteResult × WriteResult)
+recordMoveCases =
+    -- "move each to the new form by adding zeros"
+    (widenRecords (oldFrame 2 (0x09 ∷ 0x08 ∷ []) ++ oldFrame 0 []) (zeros 256), written (frameRecord 2 (0x09 ∷ 0x08 ∷ []) ++ frameRecord 0 []) (zeros 256))
+    -- "and back where L is at most 62"
+    ∷ (narrowRecords (frameRecord 62 (replicate 62 0xAA) ++ frameRecord 0 []) (zeros 128), written (oldFrame 62 (replicate 62 0xAA) ++ oldFrame 0 []) (zeros 128))
+    -- "the rest of it stays"
+    ∷ (widenRecords (oldFrame 0 []) (replicate 130 0xBB), record { number = 0; length = 128; output = frameRecord 0 [] ++ (0xBB ∷ 0xBB ∷ []) })
+    -- no record at all
+    ∷ (widenRecords [] (5 ∷ []), written [] (5 ∷ []))
+    ∷ (narrowRecords [] [], written [] [])
+    -- "nothing written"
+    ∷ (narrowRecords (frameRecord 63 []) (replicate 64 0xBB), record { number = 16; length = 0; output = replicate 64 0xBB })
+    -- "13 for a short output"
+    ∷ (widenRecords (oldFrame 0 []) (zeros 127), unwritten 13 (zeros 127))
+    ∷ (narrowRecords (frameRecord 0 []) (zeros 63), unwritten 13 (zeros 63))
+    -- "15 for a file not of whole records" comes first: a broken one, and one too long
+    ∷ (widenRecords (63 ∷ []) [], unwritten 15 [])
+    ∷ (narrowRecords (frameRecord 127 [] ++ zeros 64) [], unwritten 15 [])
+    ∷ (narrowRecords (frameRecord 126 [] ++ (0 ∷ [])) [], unwritten 15 [])
+    -- "then 8 for a broken one by its form's rules": L above 62 and above 126, a byte past the data
+    ∷ (widenRecords (oldFrame 0 [] ++ oldFrame 63 []) [], unwritten 8 [])
+    ∷ (widenRecords (oldFrame 1 (0x09 ∷ 0x08 ∷ [])) [], unwritten 8 [])
+    ∷ (narrowRecords (frameRecord 127 []) [], unwritten 8 [])
+    ∷ (narrowRecords (frameRecord 62 (replicate 63 0xAA)) [], unwritten 8 [])
+    -- also after one that is too long
+    ∷ (narrowRecords (frameRecord 126 [] ++ frameRecord 127 []) [], unwritten 8 [])
+    -- "then 16 for one too long to go back", before 13
+    ∷ (narrowRecords (frameRecord 62 [] ++ frameRecord 63 []) [], unwritten 16 [])
     ∷ []
 
 abbrev pub comes : WriteResult × WriteResult → Bool

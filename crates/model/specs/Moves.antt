@@ -47,14 +47,14 @@ widened entry = entry ++ cond (eqb (markByte entry) 1) (word 2 start) (zeros 2) 
 unfoldable pub narrowed : List ℕ → List ℕ
 narrowed entry = take oldRecord entry
 
--- ---- a sheet
+-- ---- a sheet, or another file of records of one size
 
 -- n pieces of so many bytes, from the start on
 unfoldable pub pieces : ℕ → ℕ → List ℕ → List (List ℕ)
 pieces size zero bytes = []
 pieces size (suc n) bytes = take size bytes ∷ pieces size n (drop size bytes)
 
--- the whole records of a sheet
+-- the whole records of a file
 unfoldable pub recordsOf : ℕ → List ℕ → List (List ℕ)
 recordsOf size sheet = pieces size (length sheet / size) sheet
 

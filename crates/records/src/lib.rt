@@ -5,21 +5,21 @@ use model::WriteReply;
 use refusals::well_formed;
 use refusals::widened;
 ghost use mathlib.Core.Path.{_≡_};
+ghost use mathlib.Core.Bool.{_||_};
 ghost use mathlib.Core.List.{_++_};
-ghost use Prim.Native.Nat.{_+_, _%_, _≤_, _<_, min};
-ghost use lib.ListN.{length, getD, drop};
+ghost use Prim.Native.Nat.{_+_, _*_, _%_, _≤_, _<_, min};
+ghost use lib.Dec.{eqb};
+ghost use lib.ListN.{length, getD, take, drop};
 ghost use Rattle.model.specs.Moves.{recordsOf, someRecord, eachRecord};
 ghost use Rattle.model.specs.RecordMoves.{oldForm, newForm, broken, tooLong, fitted, moveCall, widenRecords, narrowRecords};
 ghost use Rattle.model.specs.Replies.{ofWrite};
+ghost use Rattle.records.specs.Blocks.{fromForm, toForm, fileNumber, fileMoved, earlier};
 
 // Document 01: "a record of exactly 64 bytes", "length L (0 to 62)".
 fn old_form() -> Form
     ensures { λ r. ⌜ r ≡ oldForm ⌝ }
 {
-    Form {
-        size: 64,
-        most: 62,
-    }
+    Form { size: 64, most: 62 }
 }
 
 // C-16: "the record becomes 128 bytes with L from 0 to 126".
@@ -137,4 +137,71 @@ pub fn narrow_records(new: &[u8], output: &mut [u8]) -> WriteReply
     ensures { λ r. ⌜ ofWrite (now (output .exit)) r ≡ narrowRecords (now (new .entry)) (now (output .entry)) ⌝ }
 {
     move_records(new_form(), old_form(), new, output)
+}
+
+// ---- a file of any length, block by block
+
+// From the old form to the new one, or back.
+pub enum Direction {
+    Widen,
+    Narrow,
+}
+
+// The number that the file is refused with so far, or 0, and how many bytes of the block in the other form there are.
+pub struct Taken {
+    pub number: u8,
+    pub written: usize,
+}
+
+fn either(a: u8, b: u8, n: u8) -> bool
+    ensures { λ r. ⌜ r ≡ (eqb a n || eqb b n) ⌝ }
+{
+    if a == n {
+        return true;
+    }
+    b == n
+}
+
+// The number of a file from those of its two parts: "15 .., then 8 .., then 16 ..".
+fn earlier_of(a: u8, b: u8) -> u8
+    ensures { λ r. ⌜ r ≡ earlier a b ⌝ }
+{
+    if either(a, b, 15) {
+        return 15;
+    }
+    if either(a, b, 8) {
+        return 8;
+    }
+    if either(a, b, 16) {
+        return 16;
+    }
+    0
+}
+
+fn move_block(direction: Direction, block: &[u8], output: &mut [u8]) -> WriteReply
+    ensures { λ r. ⌜ ofWrite (now (output .exit)) r ≡ moveCall (fromForm direction) (toForm direction) (now (block .entry)) (now (output .entry)) ⌝ }
+{
+    match direction {
+        Direction::Widen => widen_records(block, output),
+        Direction::Narrow => narrow_records(block, output),
+    }
+}
+
+// One block more of a file whose blocks so far are of whole records, and have this number: its records in the other form at the start of
+// the output, if it is not refused.
+pub fn take_block(direction: Direction, number: u8, block: &[u8], output: &mut [u8]) -> Taken
+    requires { ⌜ 2 * length (now block) ≤ length (now output) ⌝ }
+    ensures { λ r. ⌜ r .number ≡ earlier number (fileNumber direction (now (block .entry))) ⌝ }
+    ensures { λ r. ⌜ (r .written ≤ length (now (output .exit))) × (take (r .written) (now (output .exit)) ≡ fileMoved direction (now (block .entry))) ⌝ }
+{
+    match move_block(direction, block, output) {
+        WriteReply::Written(written) => Taken {
+            number: earlier_of(number, 0),
+            written,
+        },
+        WriteReply::Refused(refused) => Taken {
+            number: earlier_of(number, refused),
+            written: 0,
+        },
+    }
 }

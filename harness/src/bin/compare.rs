@@ -80,7 +80,7 @@ fn main() {
     }
 
     println!(
-        "Whole calls: a short filter on a 64-byte record; a load clears 65,536 + 3 x 256 bytes,"
+        "Whole calls: a short filter on a 128-byte record; a load clears 65,536 + 3 x 256 bytes,"
     );
     println!("in C by memset.");
     table("ns a call", &cores, &time_calls(&cores, rounds, CALLS));
