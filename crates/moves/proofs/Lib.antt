@@ -1,4 +1,4 @@
 pub mod Calls
-pub mod Loops
 pub mod Moving
 pub mod Records
+pub mod Sheets

@@ -10,7 +10,7 @@ use borrow.Rule.Slice.PartMut.{putMid}
 use Rattle.model.specs.Admission.{sheetRecord}
 use Rattle.model.specs.Moves.{oldRecord, widened, narrowed, widenedSheet, narrowedSheet}
 use Rattle.model.proofs.Moves.{long-widened, long-narrowed}
-use Rattle.moves.proofs.Loops.{piece-is, part-long, room, entry-long, piece-long, Moved, moved-room, moved-put}
+use Rattle.moves.proofs.Sheets.{piece-is, part-long, room, entry-long, piece-long, Moved, moved-room, moved-put}
 
 -- ---- to the new form
 

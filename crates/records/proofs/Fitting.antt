@@ -15,7 +15,7 @@ use Rattle.model.specs.Calls.{wellFormed}
 use Rattle.model.specs.Moves.{recordsOf, eachRecord}
 use Rattle.model.specs.RecordMoves.{broken, tooLong, fitted}
 use Rattle.model.proofs.RecordMoves.{long-fitted}
-use Rattle.moves.proofs.Loops.{Place, Moved, piece-is, entry-long, room, moved-room, moved-next}
+use Rattle.moves.proofs.Sheets.{Place, Moved, piece-is, entry-long, room, moved-room, moved-next}
 
 -- ---- a record
 

@@ -6,19 +6,19 @@ use lib.Dec.{lit<}
 use lib.ListN.{length}
 use Rattle.model.specs.Admission.{sheetRecord}
 use Rattle.model.specs.Moves.{narrowed, narrowedSheet}
-use Rattle.moves.proofs.Loops as loops
+use Rattle.moves.proofs.Sheets as sheets
 use Rattle.moves.proofs.Moving as moving
 use Rattle.moves.proofs.narrow_all.Statement.{statement}
 use Rattle.moves.proofs.narrow_all.Tie as tie
 
 abbrev Inv-loop : tie.InvT-loop
-Inv-loop new output₀ at₀ to₀ output at to = loops.Moved narrowed sheetRecord new output₀ output at to
+Inv-loop new output₀ at₀ to₀ output at to = sheets.Moved narrowed sheetRecord new output₀ output at to
 
 abbrev μ-loop : tie.MeasureT-loop
 μ-loop new output₀ at₀ to₀ output at to = length new - at
 
 loop-holds : tie.Need-loop-holds Inv-loop μ-loop
-loop-holds c = loops.moved-start narrowed sheetRecord _ _ (lit< tt) (c .before .before .pre .0)
+loop-holds c = sheets.moved-start narrowed sheetRecord _ _ (lit< tt) (c .before .before .pre .0)
 
 add-end : tie.Need-add-end Inv-loop μ-loop
 add-end c = omega (arith, moving.narrow-end _ _ _ (c .before .loop .at) (c .before .loop .to) (c .before .loop .inv) (c .loop-test .taken) (c .before .before .before .before .pre .1))
@@ -45,7 +45,7 @@ place-requires : tie.Need-place-requires Inv-loop μ-loop
 place-requires c κs = moving.narrow-asks _ _ _ (c .before .before .before .loop .at) (c .before .before .before .loop .to) (c .before .before .before .loop .inv) (c .before .before .loop-test .taken) (c .before .before .before .before .before .before .pre .1)
 
 add-at : tie.Need-add-at Inv-loop μ-loop
-add-at c = omega (arith, loops.room sheetRecord _ (lit< tt) (c .before .before .before .before .before .before .loop .at) (c .before .before .before .before .before .before .loop .inv .place) (c .before .before .before .before .before .loop-test .taken))
+add-at c = omega (arith, sheets.room sheetRecord _ (lit< tt) (c .before .before .before .before .before .before .loop .at) (c .before .before .before .before .before .before .loop .inv .place) (c .before .before .before .before .before .loop-test .taken))
 
 add-to : tie.Need-add-to Inv-loop μ-loop
 add-to c = omega (arith, moving.narrow-room _ _ _ (c .before .before .before .before .before .before .loop .at) (c .before .before .before .before .before .before .loop .to) (c .before .before .before .before .before .before .loop .inv) (c .before .before .before .before .before .loop-test .taken) (c .before .before .before .before .before .before .before .before .before .pre .1))
@@ -61,7 +61,7 @@ same-length c = c .before .loop .inv .long
 
 returns : tie.Need-returns Inv-loop μ-loop
 unfolding narrowedSheet
-returns c = loops.moved-end narrowed sheetRecord _ _ (lit< tt) _ (c .before .loop .at) (c .before .loop .to) (c .before .loop .inv) (c .loop-test .left)
+returns c = sheets.moved-end narrowed sheetRecord _ _ (lit< tt) _ (c .before .loop .at) (c .before .loop .to) (c .before .loop .inv) (c .loop-test .left)
 
 pub narrow-all-spec : {M : Type 1} → statement M
 narrow-all-spec =

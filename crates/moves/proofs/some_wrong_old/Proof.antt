@@ -4,21 +4,21 @@ use native.Mathlib.Omega.{arith}
 use lib.Dec.{lit<}
 use lib.ListN.{length}
 use Rattle.model.specs.Moves.{oldRecord, wrongOld}
-use Rattle.moves.proofs.Loops as loops
+use Rattle.moves.proofs.Sheets as sheets
 use Rattle.moves.proofs.some_wrong_old.Statement.{statement}
 use Rattle.moves.proofs.some_wrong_old.Tie as tie
 
 abbrev Inv-loop : tie.InvT-loop
-Inv-loop sheet at₀ at = loops.Judged oldRecord wrongOld sheet at
+Inv-loop sheet at₀ at = sheets.Judged oldRecord wrongOld sheet at
 
 abbrev μ-loop : tie.MeasureT-loop
 μ-loop sheet at₀ at = length sheet - at
 
 loop-holds : tie.Need-loop-holds Inv-loop μ-loop
-loop-holds c = loops.judged-start oldRecord wrongOld _ (lit< tt) (c .before .pre)
+loop-holds c = sheets.judged-start oldRecord wrongOld _ (lit< tt) (c .before .pre)
 
 add-end : tie.Need-add-end Inv-loop μ-loop
-add-end c = omega (arith, loops.room oldRecord _ (lit< tt) (c .before .loop .at) (c .before .loop .inv .place) (c .loop-test .taken))
+add-end c = omega (arith, sheets.room oldRecord _ (lit< tt) (c .before .loop .at) (c .before .loop .inv .place) (c .loop-test .taken))
 
 sub-wrong-old : tie.Need-sub-wrong-old Inv-loop μ-loop
 sub-wrong-old c = omega arith
@@ -27,22 +27,22 @@ part-wrong-old-start : tie.Need-part-wrong-old-start Inv-loop μ-loop
 part-wrong-old-start c = omega arith
 
 part-wrong-old-end : tie.Need-part-wrong-old-end Inv-loop μ-loop
-part-wrong-old-end c = loops.room oldRecord _ (lit< tt) (c .before .loop .at) (c .before .loop .inv .place) (c .loop-test .taken)
+part-wrong-old-end c = sheets.room oldRecord _ (lit< tt) (c .before .loop .at) (c .before .loop .inv .place) (c .loop-test .taken)
 
 wrong-old-requires : tie.Need-wrong-old-requires Inv-loop μ-loop
-wrong-old-requires c κs = omega (arith, loops.piece-long oldRecord _ (lit< tt) (c .before .before .loop .at) (c .before .before .loop .inv .place) (c .before .loop-test .taken))
+wrong-old-requires c κs = omega (arith, sheets.piece-long oldRecord _ (lit< tt) (c .before .before .loop .at) (c .before .before .loop .inv .place) (c .before .loop-test .taken))
 
 returns : tie.Need-returns Inv-loop μ-loop
-returns c = loops.judged-found oldRecord wrongOld _ (lit< tt) (c .before .before .before .before .loop .at) (c .before .before .before .before .loop .inv) (c .before .before .before .loop-test .taken) (c .before .wrong-old .result) (c .before .wrong-old .ensures) (c .if1 .taken)
+returns c = sheets.judged-found oldRecord wrongOld _ (lit< tt) (c .before .before .before .before .loop .at) (c .before .before .before .before .loop .inv) (c .before .before .before .loop-test .taken) (c .before .wrong-old .result) (c .before .wrong-old .ensures) (c .if1 .taken)
 
 loop-less : tie.Need-loop-less Inv-loop μ-loop
 loop-less c = omega arith
 
 loop-again : tie.Need-loop-again Inv-loop μ-loop
-loop-again c = loops.judged-next oldRecord wrongOld _ (lit< tt) (c .before .before .before .before .loop .at) (c .before .before .before .before .loop .inv) (c .before .before .before .loop-test .taken) (c .before .wrong-old .result) (c .before .wrong-old .ensures) (c .if1 .left)
+loop-again c = sheets.judged-next oldRecord wrongOld _ (lit< tt) (c .before .before .before .before .loop .at) (c .before .before .before .before .loop .inv) (c .before .before .before .loop-test .taken) (c .before .wrong-old .result) (c .before .wrong-old .ensures) (c .if1 .left)
 
 returns-2 : tie.Need-returns-2 Inv-loop μ-loop
-returns-2 c = loops.judged-end oldRecord wrongOld _ (lit< tt) (c .before .loop .at) (c .before .loop .inv) (c .loop-test .left)
+returns-2 c = sheets.judged-end oldRecord wrongOld _ (lit< tt) (c .before .loop .at) (c .before .loop .inv) (c .loop-test .left)
 
 pub some-wrong-old-spec : {M : Type 1} → statement M
 some-wrong-old-spec =

@@ -5,22 +5,22 @@ use native.Mathlib.Omega.{arith}
 use lib.Dec.{lit<}
 use lib.ListN.{length}
 use Rattle.model.specs.Moves.{oldRecord, widened, widenedSheet}
-use Rattle.moves.proofs.Loops as loops
+use Rattle.moves.proofs.Sheets as sheets
 use Rattle.moves.proofs.Moving as moving
 use Rattle.moves.proofs.widen_all.Statement.{statement}
 use Rattle.moves.proofs.widen_all.Tie as tie
 
 abbrev Inv-loop : tie.InvT-loop
-Inv-loop old output₀ at₀ to₀ output at to = loops.Moved widened oldRecord old output₀ output at to
+Inv-loop old output₀ at₀ to₀ output at to = sheets.Moved widened oldRecord old output₀ output at to
 
 abbrev μ-loop : tie.MeasureT-loop
 μ-loop old output₀ at₀ to₀ output at to = length old - at
 
 loop-holds : tie.Need-loop-holds Inv-loop μ-loop
-loop-holds c = loops.moved-start widened oldRecord _ _ (lit< tt) (c .before .before .pre .0)
+loop-holds c = sheets.moved-start widened oldRecord _ _ (lit< tt) (c .before .before .pre .0)
 
 add-end : tie.Need-add-end Inv-loop μ-loop
-add-end c = omega (arith, loops.room oldRecord _ (lit< tt) (c .before .loop .at) (c .before .loop .inv .place) (c .loop-test .taken))
+add-end c = omega (arith, sheets.room oldRecord _ (lit< tt) (c .before .loop .at) (c .before .loop .inv .place) (c .loop-test .taken))
 
 sub-put-widened : tie.Need-sub-put-widened Inv-loop μ-loop
 sub-put-widened c = c .before .loop .inv .inside
@@ -38,7 +38,7 @@ part-put-widened-start-2 : tie.Need-part-put-widened-start-2 Inv-loop μ-loop
 part-put-widened-start-2 c = omega arith
 
 part-put-widened-end-2 : tie.Need-part-put-widened-end-2 Inv-loop μ-loop
-part-put-widened-end-2 c = loops.room oldRecord _ (lit< tt) (c .before .before .loop .at) (c .before .before .loop .inv .place) (c .before .loop-test .taken)
+part-put-widened-end-2 c = sheets.room oldRecord _ (lit< tt) (c .before .before .loop .at) (c .before .before .loop .inv .place) (c .before .loop-test .taken)
 
 put-widened-requires : tie.Need-put-widened-requires Inv-loop μ-loop
 put-widened-requires c κs = moving.widen-asks _ _ _ (c .before .before .before .loop .at) (c .before .before .before .loop .to) (c .before .before .before .loop .inv) (c .before .before .loop-test .taken) (c .before .before .before .before .before .before .pre .1)
@@ -57,7 +57,7 @@ same-length c = c .before .loop .inv .long
 
 returns : tie.Need-returns Inv-loop μ-loop
 unfolding widenedSheet
-returns c = loops.moved-end widened oldRecord _ _ (lit< tt) _ (c .before .loop .at) (c .before .loop .to) (c .before .loop .inv) (c .loop-test .left)
+returns c = sheets.moved-end widened oldRecord _ _ (lit< tt) _ (c .before .loop .at) (c .before .loop .to) (c .before .loop .inv) (c .loop-test .left)
 
 pub widen-all-spec : {M : Type 1} → statement M
 widen-all-spec =

@@ -4,7 +4,7 @@ use mathlib.Core.Path.{_≡_}
 use native.Mathlib.Omega.{arith}
 use lib.ListN.{length}
 use Rattle.model.specs.RecordMoves.{fitted}
-use Rattle.moves.proofs.Loops as loops
+use Rattle.moves.proofs.Sheets as loops
 use Rattle.records.proofs.Fitting as fitting
 use borrow.Author.Needs.{needs}
 use Rattle.records.proofs.fit_records.Statement.{statement}

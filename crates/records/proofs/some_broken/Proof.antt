@@ -3,7 +3,7 @@ use Prim.Native.Nat.{_-_}
 use native.Mathlib.Omega.{arith}
 use lib.ListN.{length}
 use Rattle.model.specs.RecordMoves.{broken}
-use Rattle.moves.proofs.Loops as loops
+use Rattle.moves.proofs.Sheets as loops
 use Rattle.records.proofs.Fitting as fitting
 use Rattle.records.proofs.some_broken.Statement.{statement}
 use Rattle.records.proofs.some_broken.Tie as tie

@@ -4,7 +4,7 @@ use Prim.Native.Nat.{_-_}
 use native.Mathlib.Omega.{arith}
 use lib.ListN.{length}
 use Rattle.model.specs.RecordMoves.{tooLong}
-use Rattle.moves.proofs.Loops as loops
+use Rattle.moves.proofs.Sheets as loops
 use Rattle.records.proofs.Fitting as fitting
 use Rattle.records.proofs.some_too_long.Statement.{statement}
 use Rattle.records.proofs.some_too_long.Tie as tie

@@ -1,4 +1,4 @@
--- Laws of the loops over a file of records of any size: of a test of each record, and of a move of each. Assumes nothing.
+-- Laws of the loops over a sheet, or another file of records of one size: of a test of each record, and of a move of each. Assumes nothing.
 use mathlib.Core.Path.{_≡_, refl, sym, ap, _∙_}
 use mathlib.Core.Bool.{Bool, true, false}
 use mathlib.Core.List.{List, [], _∷_, _++_, append-assoc, append-nil}
