@@ -4,7 +4,8 @@
 //! - `second`: the second, independent machine; `pair`: both side by side;
 //! - `second_admission`: the second admission; `reasons`: whether a reason is true of a program;
 //!   `admissions`: the admissions side by side, and the reasons;
-//! - `moves`: moves between an old form and a new one, each beside a second one;
+//! - `moves`: moves between an old form and a new one, each beside a second one; `records`: frame records
+//!   of both forms, and the second moves of files of them;
 //! - `watch`: demand 3, watched step by step;
 //! - `linked`: the linked programs; `sentences`: the line of `explain`; `compiled`: C programs over the library; `disassembly`: its machine
 //!   code;
@@ -32,6 +33,7 @@ pub mod peers;
 pub mod programs;
 pub mod random;
 pub mod reasons;
+pub mod records;
 pub mod rust_admission;
 pub mod rust_core;
 pub mod second;

@@ -1,7 +1,7 @@
-//! The linked programs `frames`, `sheet` and `explain`: where they stand, how they are run, and what
-//! they should write on standard output and say on standard error, from the second machine and the
-//! second admission, and for `explain` from the call of the library. They stand in `target/bin` below the repository's root, or in the folder that
-//! UXN_FILTER_BIN names.
+//! The linked programs `frames`, `sheet`, `explain`, `widen` and `narrow`: where they stand, how they are
+//! run, and what they should write on standard output and say on standard error, from the second machine,
+//! the second admission and the second moves of records, and for `explain` from the call of the library.
+//! They stand in `target/bin` below the repository's root, or in the folder that UXN_FILTER_BIN names.
 
 use std::ffi::OsStr;
 use std::fmt::Display;
@@ -14,16 +14,20 @@ use std::thread;
 use std::time::{Duration, Instant};
 
 use crate::assembler::assemble;
-use crate::calls::{ADMITTED, MEMORY, PAGE, PROGRAM_LIMIT, RECORD, SHEET_RECORD};
-use crate::compiled::repository;
+use crate::calls::{ADMITTED, MEMORY, OLD_RECORD, PAGE, PROGRAM_LIMIT, RECORD, SHEET_RECORD};
+use crate::compiled::{printed, repository};
+use crate::moves::Due;
 use crate::random::Random;
+use crate::records;
 use crate::second::{self, Answer, Parts};
 use crate::{library, second_admission, sentences};
 
 /// Steps that `frames` gives each frame.
 pub const BUDGET: u32 = 10_000;
-/// Records of a block: `frames` reads no more than 65,536 bytes at once.
-pub const BLOCK: usize = 65_536 / RECORD;
+/// The programs read no more than this many bytes of records at once.
+pub const BLOCK_BYTES: usize = 65_536;
+/// Records of a block.
+pub const BLOCK: usize = BLOCK_BYTES / RECORD;
 /// A program that should have ended by then hangs.
 pub const PATIENCE: Duration = Duration::from_secs(20);
 
@@ -34,6 +38,9 @@ pub const NOT_READ: &str = "Input/output error";
 pub const NOT_OPEN: &str = "Bad file descriptor";
 pub const NO_SPACE: &str = "No space left on device";
 pub const NO_READER: &str = "Broken pipe";
+
+/// A name of standard input.
+pub const STDIN: &str = "/dev/stdin";
 
 /// What is named where standard input or standard output fails.
 pub const INPUT: &str = "standard input";
@@ -90,6 +97,46 @@ pub fn explain() -> Command {
     Command::new(program("explain"))
 }
 
+/// `widen` or `narrow`: its name, and how many bytes the records have that it reads and writes.
+#[derive(Clone, Copy)]
+pub struct Conversion {
+    pub name: &'static str,
+    pub from: usize,
+    pub to: usize,
+}
+
+pub const WIDEN: Conversion = Conversion {
+    name: "widen",
+    from: OLD_RECORD,
+    to: RECORD,
+};
+pub const NARROW: Conversion = Conversion {
+    name: "narrow",
+    from: RECORD,
+    to: OLD_RECORD,
+};
+
+impl Conversion {
+    pub fn of(self, file: impl AsRef<OsStr>) -> Command {
+        let mut command = Command::new(program(self.name));
+        command.arg(file);
+        command
+    }
+
+    /// What becomes of a file, from the second moves.
+    pub fn due(self, file: &[u8]) -> Due {
+        records::due(file, self.from, self.to)
+    }
+
+    /// What it writes and says of a file that can be read.
+    pub fn expected(self, file: &[u8]) -> Written {
+        match self.due(file) {
+            Ok(moved) => Written::only_out(moved),
+            Err(number) => Written::only_said(format!("refused {number}\n")),
+        }
+    }
+}
+
 /// The program, started by a shell that has done something first.
 pub fn after(shell: &str, name: &str) -> Command {
     let mut command = Command::new("sh");
@@ -125,6 +172,26 @@ pub fn pipe(folder: &Path, name: &str) -> PathBuf {
     path
 }
 
+/// A device that takes no byte.
+pub fn full() -> Stdio {
+    let device = File::options().write(true).open("/dev/full");
+    device.expect("the device opens").into()
+}
+
+/// Makes commands whose read of this number, from 1 on, fails.
+pub fn failing(folder: &Path) -> impl Fn(Command, usize) -> Command {
+    let library = folder.join("failing.so");
+    let source = Path::new(env!("CARGO_MANIFEST_DIR")).join("tests/failing.c");
+    let mut build = Command::new("cc");
+    build.args(["-Wall", "-Wextra", "-Werror", "-shared", "-fPIC"]);
+    assert_eq!(printed(build.arg(source).arg("-o").arg(&library)), "");
+    move |mut command, read| {
+        command.env("LD_PRELOAD", &library);
+        command.env("FAILING_READ", read.to_string());
+        command
+    }
+}
+
 // Runs
 
 /// Waits for the end, and says whether it came in time.
@@ -139,6 +206,14 @@ pub fn ends(child: &mut Child) -> bool {
     child.kill().expect("the program is ended");
     child.wait().expect("the program is ended");
     false
+}
+
+/// Sends a signal: `-STOP`, `-CONT`.
+pub fn signal(child: &Child, name: &str) {
+    let id = child.id().to_string();
+    let sent = Command::new("kill").args([name, &id]).output();
+    // It may have ended before.
+    sent.expect("kill runs");
 }
 
 /// A run to its end with the whole of standard input there from the start.

@@ -23,7 +23,7 @@ use uxn_filter_harness::filters::{after, forbidden_bytes};
 use uxn_filter_harness::library;
 use uxn_filter_harness::linked::{
     self, assert_writes, expected_lines, explain, file, lines_of, program, sheet, sheet_of,
-    Written, BUDGET,
+    Written, BUDGET, NARROW, WIDEN,
 };
 use uxn_filter_harness::listing::{self, hexadecimal, listing, Listed};
 use uxn_filter_harness::opcodes::{BRK, JMP2R};
@@ -677,7 +677,7 @@ fn refused_programs_and_the_same_mended() {
 fn the_numbers_of_the_table() {
     let rows = table("| number | what it means | what to do |");
     let numbers: Vec<u8> = rows.iter().map(|row| row[0].parse().unwrap()).collect();
-    assert_eq!(numbers, [5, 7, 8, 9, 10, 11]);
+    assert_eq!(numbers, [5, 7, 8, 9, 10, 11, 15, 16]);
 
     let mut pair = Pair::new(0);
     for (length, number) in [(0, 5), (1, 0), (PROGRAM_LIMIT, 0), (PROGRAM_LIMIT + 1, 5)] {
@@ -700,6 +700,21 @@ fn the_numbers_of_the_table() {
         assert_eq!(admissions.admit_into(&[BRK], length), 10);
     }
     assert_eq!(admissions.admit(&[0x02]), 11);
+
+    let folder = folder("the_numbers_of_the_table");
+    let too_long = data(OLD_RECORD - 1, 1, 1);
+    let part = &too_long[..RECORD - 1];
+    for (conversion, bytes, number) in [
+        (WIDEN, part, 15),
+        (NARROW, part, 15),
+        (WIDEN, &too_long[..OLD_RECORD], 8),
+        (NARROW, &record("7F 05"), 8),
+        (NARROW, &too_long, 16),
+    ] {
+        let mut command = conversion.of(file(&folder, "records.bin", bytes));
+        let said = Written::only_said(format!("refused {number}\n"));
+        assert_writes(&mut command, &[], &said);
+    }
 }
 
 // Sheets
@@ -853,7 +868,11 @@ fn the_commands_write_what_is_said() {
     path.push(":");
     path.push(std::env::var_os("PATH").unwrap_or_default());
     let blocks = blocks("console");
-    assert!(blocks.len() >= 2, "a sheet and frames");
+    assert!(blocks.len() >= 3, "frames, old records and a sheet");
+    for name in ["frames", "sheet", "explain", "widen", "narrow"] {
+        let shown = |block: &Block| block.text.contains(&format!("$ {name} "));
+        assert!(blocks.iter().any(shown), "no command with {name}");
+    }
     for Block { text, .. } in blocks {
         if text.contains("xxd") && !has_xxd {
             say("xxd is not there: commands of docs/FILTERS.md that use it are not run");

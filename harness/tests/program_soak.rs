@@ -12,7 +12,7 @@ use std::os::unix::fs::symlink;
 use std::os::unix::net::UnixStream;
 use std::os::unix::process::ExitStatusExt;
 use std::path::{Path, PathBuf};
-use std::process::{Child, Command, ExitStatus, Stdio};
+use std::process::{Command, ExitStatus, Stdio};
 use std::thread::{self, JoinHandle};
 use std::time::Duration;
 
@@ -21,8 +21,8 @@ use uxn_filter_harness::calls::{ADMIT_LIMIT, PROGRAM_LIMIT, RECORD};
 use uxn_filter_harness::filters::{any, any_length, filter};
 use uxn_filter_harness::linked::{
     self, after, calling, ends, expected_lines, expected_sheet, feed, file, frames, pipe, quick,
-    random_record, said_at_end, same, sheet, Written, BLOCK, INPUT, IS_FOLDER, NOT_READ, NO_FILE,
-    NO_READER, NO_SPACE, OUTPUT, SIGPIPE,
+    random_record, said_at_end, same, sheet, signal, Written, BLOCK, INPUT, IS_FOLDER, NOT_READ,
+    NO_FILE, NO_READER, NO_SPACE, OUTPUT, SIGPIPE,
 };
 use uxn_filter_harness::programs::{either, random_bytes};
 use uxn_filter_harness::random::Random;
@@ -207,13 +207,6 @@ fn release(path: &Path, writer: JoinHandle<()>) {
         thread::sleep(Duration::from_micros(200));
     }
     writer.join().expect("the pipe is written");
-}
-
-fn signal(child: &Child, name: &str) {
-    let id = child.id().to_string();
-    let sent = Command::new("kill").args([name, &id]).output();
-    // It may have ended before.
-    sent.expect("kill runs");
 }
 
 fn taken(mut from: impl Read, sink: Sink) -> Vec<u8> {

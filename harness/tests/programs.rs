@@ -1,6 +1,7 @@
 //! The linked programs `frames`, `sheet` and `explain`: arguments, files and pipes of every kind,
 //! their lines, sheets and messages beside the second machine, the second admission and the call that
-//! explains, the example, and valgrind.
+//! explains, and the example. Of all programs, `widen` and `narrow` too: `--help`, wrong arguments, little
+//! memory, and valgrind.
 
 use std::ffi::OsStr;
 use std::fs::{self, File};
@@ -17,29 +18,28 @@ use std::time::{Duration, Instant};
 
 use uxn_filter_harness::admissions::Admissions;
 use uxn_filter_harness::assembler::assemble;
-use uxn_filter_harness::calls::{ADMIT_LIMIT, PROGRAM_LIMIT, RECORD, SHEET_RECORD};
-use uxn_filter_harness::compiled::{printed, repository};
+use uxn_filter_harness::calls::{ADMIT_LIMIT, OLD_RECORD, PROGRAM_LIMIT, RECORD, SHEET_RECORD};
+use uxn_filter_harness::compiled::repository;
 use uxn_filter_harness::filters::{
     any, any_length, broken, climb, likely_bytes, FAULTS, ROOM_FOR_A_FAULT,
 };
 use uxn_filter_harness::linked::{
     self, after, assert_writes, assert_written, calling, ends, expected_explained, expected_frames,
-    expected_lines, expected_sheet, explain, file, frames, lines_of, pipe, program, quick,
-    random_record, run, run_in_pieces, said_at_end, sheet, sheet_of, Written, BLOCK, BUDGET, INPUT,
-    IS_FOLDER, NOT_OPEN, NOT_READ, NO_FILE, NO_READER, NO_SPACE, OUTPUT, PASSES, PATIENCE, SIGPIPE,
+    expected_lines, expected_sheet, explain, failing, file, frames, full, lines_of, pipe, program,
+    quick, random_record, run, run_in_pieces, said_at_end, sheet, sheet_of, Conversion, Written,
+    BLOCK, BLOCK_BYTES, BUDGET, INPUT, IS_FOLDER, NARROW, NOT_OPEN, NOT_READ, NO_FILE, NO_READER,
+    NO_SPACE, OUTPUT, PASSES, PATIENCE, SIGPIPE, STDIN, WIDEN,
 };
 use uxn_filter_harness::listing::{self, hexadecimal, listing, Listed};
 use uxn_filter_harness::opcodes::{BRK, DUP, INC, JMP2R, LIT, POP};
 use uxn_filter_harness::pair::say;
 use uxn_filter_harness::programs::either;
 use uxn_filter_harness::random::{seed, Random};
+use uxn_filter_harness::records::{any_good, changed};
 use uxn_filter_harness::sentences;
 
 /// Between pieces of input.
 const PAUSE: Duration = Duration::from_millis(5);
-
-/// A name of standard input.
-const STDIN: &str = "/dev/stdin";
 
 /// A file of the repository's example.
 fn example(name: &str) -> PathBuf {
@@ -84,10 +84,17 @@ fn help() {
     let of_sheet = [5, 9, ADMIT_LIMIT, 11];
     // The mode 2 is for 16 bits.
     let of_explain = [5, 9, ADMIT_LIMIT, 11, 2, 16];
+    let of_widen = [OLD_RECORD, RECORD, 15, OLD_RECORD, 8, OLD_RECORD - 2, 0];
+    let [old_most, most] = [OLD_RECORD - 2, RECORD - 2];
+    let of_narrow = [
+        RECORD, OLD_RECORD, OLD_RECORD, 15, RECORD, 8, most, 0, 16, old_most,
+    ];
     for (name, first, said) in [
         ("frames", "usage: frames PROGRAM RECORDS", &of_frames[..]),
         ("sheet", "usage: sheet < PROGRAM > SHEET", &of_sheet[..]),
         ("explain", "usage: explain < PROGRAM", &of_explain[..]),
+        ("widen", "usage: widen FILE > NEW", &of_widen[..]),
+        ("narrow", "usage: narrow FILE > OLD", &of_narrow[..]),
     ] {
         let text = usage(name);
         assert_eq!(text.lines().next(), Some(first));
@@ -111,18 +118,29 @@ fn wrong_arguments() {
         word.replace_range(place..=place, "x");
         words.push(word);
     }
-    let mut lists: Vec<Vec<String>> = words.into_iter().map(|word| vec![word]).collect();
+    let one: Vec<Vec<String>> = words.into_iter().map(|word| vec![word]).collect();
+    let records = example("records.bin").display().to_string();
+    let mut more = Vec::new();
     for count in [3, 9] {
-        lists.push(vec![example("filter.rom").display().to_string(); count]);
-        lists.push(vec![help(); count]);
+        more.push(vec![example("filter.rom").display().to_string(); count]);
+        more.push(vec![help(); count]);
     }
-    for (name, other) in [
-        ("frames", Vec::new()),
-        ("sheet", vec![help(); 2]),
-        ("explain", vec![help(); 2]),
+    let none = Vec::new();
+    let two = vec![help(); 2];
+    let files = vec![records.clone(); 2];
+    let help_first = vec![help(), records.clone()];
+    let help_last = vec![records, help()];
+    let of_file = [&none, &two, &files, &help_first, &help_last];
+    for (name, others) in [
+        ("frames", one.iter().chain([&none]).collect()),
+        ("sheet", one.iter().chain([&two]).collect()),
+        ("explain", one.iter().chain([&two]).collect()),
+        // One argument is a name.
+        ("widen", Vec::from(of_file)),
+        ("narrow", Vec::from(of_file)),
     ] {
         let expected = Written::only_said(usage(name));
-        for arguments in lists.iter().chain([&other]) {
+        for arguments in more.iter().chain(others) {
             let mut command = Command::new(program(name));
             assert_writes(command.args(arguments), &PASSES, &expected);
         }
@@ -507,17 +525,7 @@ fn standard_error_that_takes_nothing() {
 #[test]
 fn a_read_that_fails() {
     let folder = folder("a_read_that_fails");
-    let library = folder.join("failing.so");
-    let source = Path::new(env!("CARGO_MANIFEST_DIR")).join("tests/failing.c");
-    let mut build = Command::new("cc");
-    build.args(["-Wall", "-Wextra", "-Werror", "-shared", "-fPIC"]);
-    assert_eq!(printed(build.arg(source).arg("-o").arg(&library)), "");
-    let failing = |mut command: Command, read: usize| {
-        command.env("LD_PRELOAD", &library);
-        command.env("FAILING_READ", read.to_string());
-        command
-    };
-
+    let failing = failing(&folder);
     let passes = file(&folder, "passes.rom", &PASSES);
     for length in [0, 1, RECORD - 1] {
         let bytes = vec![0; 3 * RECORD + length];
@@ -619,6 +627,23 @@ fn little_memory() {
         let mut command = after("ulimit -v 16384 && ulimit -s 128", "explain");
         assert_writes(&mut command, code, &expected_explained(code));
     }
+    // Records of zeros are good ones in both forms; with one byte more they are none.
+    for (more, conversion) in [WIDEN, NARROW]
+        .into_iter()
+        .flat_map(|one| [(0, one), (1, one)])
+    {
+        let length = 300 * BLOCK_BYTES + conversion.from;
+        let zeros = File::create(&records).expect("a file is made");
+        zeros
+            .set_len((length + more) as u64)
+            .expect("the file is lengthened");
+        let expected = match more {
+            0 => Written::only_out(vec![0; length / conversion.from * conversion.to]),
+            _ => Written::only_said("refused 15\n"),
+        };
+        let mut command = after("ulimit -v 16384 && ulimit -s 256", conversion.name);
+        assert_writes(command.arg(&records), &[], &expected);
+    }
 }
 
 // frames: standard output that takes nothing
@@ -665,12 +690,6 @@ fn assert_gives_up(rom: &Path, records: &Path, output: Stdio, reason: &str) {
     assert!(ends(&mut child), "frames goes on though nothing is written");
     let output = child.wait_with_output().expect("the program has ended");
     assert_written(&output, &Written::failed(OUTPUT, reason), "frames");
-}
-
-/// A device that takes no byte.
-fn full() -> Stdio {
-    let device = File::options().write(true).open("/dev/full");
-    device.expect("the device opens").into()
 }
 
 #[test]
@@ -1166,6 +1185,19 @@ fn watched_explain(input: &[u8]) -> Watched {
     }
 }
 
+fn watched_conversion(conversion: Conversion, records: &Path) -> Watched {
+    let expected = match fs::read(records) {
+        Ok(bytes) => conversion.expected(&bytes),
+        Err(_) => Written::failed(records, IS_FOLDER),
+    };
+    Watched {
+        program: conversion.name,
+        arguments: vec![records.to_owned()],
+        input: Vec::new(),
+        expected,
+    }
+}
+
 fn watched_help(program: &'static str) -> Watched {
     Watched {
         program,
@@ -1219,6 +1251,27 @@ fn valgrind_has_nothing_to_say() {
     for fault in FAULTS.into_iter().step_by(3) {
         let code = broken(&mut random, ROOM_FOR_A_FAULT, fault);
         runs.push(watched_explain(&code));
+    }
+    // More than a block, good and broken and with a part record, an empty file, and none.
+    for conversion in [WIDEN, NARROW] {
+        runs.push(watched_help(conversion.name));
+        runs.push(watched_conversion(conversion, &folder));
+        let good = any_good(&mut random, conversion.from, OLD_RECORD - 2);
+        let good = good.repeat(BLOCK_BYTES / conversion.from + 3);
+        let place = good.len() - 1;
+        for (name, bytes) in [
+            ("good", &good[..]),
+            ("part", &good[..place]),
+            (
+                "broken",
+                &changed(good.clone(), place - conversion.from + 1, 0xff),
+            ),
+            ("empty", &[]),
+        ] {
+            let name = format!("{name}-{}.bin", conversion.name);
+            let records = file(&folder, &name, bytes);
+            runs.push(watched_conversion(conversion, &records));
+        }
     }
 
     let next = Mutex::new(runs.iter());

@@ -1,53 +1,20 @@
 //! Moves of files of frame records between the old form and the new one: files of every length, every
 //! length byte, every byte past the data, all short lists of records of every kind with their last
 //! bytes cut off, the refusals in their order, long files, and moves there and back. The library must
-//! agree with the moves below, which are written from documents 01 and 02 alone, in the reply and in
-//! every byte of the output and beside it. The same checks see moves that are wrong in one thing.
+//! agree with the moves of `src/records.rs`, which are written from documents 01 and 02 alone, in the
+//! reply and in every byte of the output and beside it. The same checks see moves that are wrong in one
+//! thing.
 
 use std::panic::{catch_unwind, AssertUnwindSafe};
 
 use uxn_filter_harness::calls::{Written, OLD_RECORD, RECORD};
 use uxn_filter_harness::library::{narrow_records, widen_records};
-use uxn_filter_harness::moves::{refused, written, Due, Moves, Way};
+use uxn_filter_harness::moves::{refused, written, Moves, Way};
 use uxn_filter_harness::pair::say;
 use uxn_filter_harness::random::{seed, Random};
+use uxn_filter_harness::records::{any_good, changed, due, new_kinds, old_kinds, record};
 
-// The moves, a second time
-
-/// What a record of either form says.
-struct Frame<'a> {
-    node: u8,
-    data: &'a [u8],
-}
-
-impl Frame<'_> {
-    /// Length, node number, so many data bytes, zeros to the end; none if the record is broken.
-    fn read(record: &[u8]) -> Option<Frame<'_>> {
-        let (&length, rest) = record.split_first()?;
-        let (&node, rest) = rest.split_first()?;
-        let (data, zeros) = rest.split_at_checked(usize::from(length))?;
-        let good = zeros.iter().all(|&byte| byte == 0);
-        good.then_some(Frame { node, data })
-    }
-
-    /// A record of this size, if the data have room in it.
-    fn record(&self, size: usize) -> Option<Vec<u8>> {
-        let zeros = size.checked_sub(2 + self.data.len())?;
-        let start = [self.data.len() as u8, self.node];
-        Some([&start, self.data, &vec![0; zeros]].concat())
-    }
-}
-
-/// All of the file is judged before the next number.
-fn due(file: &[u8], size: usize, other: usize) -> Due {
-    if !file.len().is_multiple_of(size) {
-        return Err(15);
-    }
-    let frames: Option<Vec<Frame>> = file.chunks(size).map(Frame::read).collect();
-    let frames = frames.ok_or(8)?;
-    let records: Option<Vec<_>> = frames.iter().map(|frame| frame.record(other)).collect();
-    Ok(records.ok_or(16)?.concat())
-}
+// The moves, and what is due
 
 const WIDEN: Way = Way {
     name: "to the new form",
@@ -71,28 +38,7 @@ fn moves() -> Moves {
 /// What comes of these moves: 16 of those to the old form alone.
 const NUMBERS: [usize; 5] = [0, 8, 13, 15, 16];
 
-// Records
-
-/// A good record of this size.
-fn record(size: usize, node: u8, data: &[u8]) -> Vec<u8> {
-    let mut record = vec![0; size];
-    record[0] = data.len() as u8;
-    record[1] = node;
-    record[2..2 + data.len()].copy_from_slice(data);
-    record
-}
-
-/// The same with any data of this length.
-fn any_good(random: &mut Random, size: usize, length: usize) -> Vec<u8> {
-    let mut data = vec![0; length];
-    random.fill(&mut data);
-    record(size, random.byte(), &data)
-}
-
-fn changed(mut record: Vec<u8>, place: usize, byte: u8) -> Vec<u8> {
-    record[place] = byte;
-    record
-}
+// The checks
 
 fn worked(moves: [Way; 2]) {
     let [widen, narrow] = moves.map(|way| way.call);
@@ -251,39 +197,6 @@ fn bytes_of_a_record() {
 }
 
 // Lists of records
-
-/// Records of the old form, the first three good.
-fn old_kinds() -> Vec<Vec<u8>> {
-    let of = |data: &[u8]| record(OLD_RECORD, 5, data);
-    vec![
-        of(&[]),
-        of(&[7, 8, 9]),
-        of(&[0xff; 62]),
-        changed(of(&[]), 0, 63),
-        vec![0xff; OLD_RECORD],
-        changed(of(&[]), 2, 1),
-        changed(of(&[0xff; 61]), 63, 1),
-    ]
-}
-
-/// Records of the new form, the first three good; the next two can not go back. Of the broken ones
-/// three have a length that can not go back as well, and two are broken only past the bytes that go.
-fn new_kinds() -> Vec<Vec<u8>> {
-    let of = |data: &[u8]| record(RECORD, 5, data);
-    vec![
-        of(&[]),
-        of(&[7, 8, 9]),
-        of(&[0xff; 62]),
-        of(&[0; 63]),
-        of(&[0xff; 126]),
-        changed(of(&[]), 0, 127),
-        changed(of(&[]), 2, 1),
-        changed(of(&[0xff; 62]), 64, 1),
-        changed(of(&[7, 8, 9]), 127, 0x80),
-        changed(of(&[0; 63]), 65, 1),
-        changed(of(&[0xff; 125]), 127, 1),
-    ]
-}
 
 fn every_list(moves: &mut Moves) {
     let [widen, narrow] = moves.ways;

@@ -29,8 +29,8 @@ fn wide(n: usize) -> u64 {
     n as u64
 }
 
-// One pass over the file. Where it writes, it does so block by block, and no more once a block is refused.
-fn read_blocks(direction: Direction, fd: i32, path: &[u8], writes: bool) -> Passed
+// One pass over the file. Where it writes, it does so block by block, and no more once a block is refused or more bytes came than these.
+fn read_blocks(direction: Direction, fd: i32, path: &[u8], writes: bool, most: u64) -> Passed
     ensures { λ r. ⌜ PassOf direction r ⌝ }
 {
     let mut block_space = io::large_buffer();
@@ -54,6 +54,9 @@ fn read_blocks(direction: Direction, fd: i32, path: &[u8], writes: bool) -> Pass
             if number != 0 {
                 return Passed::Ended(number, total);
             }
+            if most < total {
+                return Passed::Ended(number, total);
+            }
             if !io::write_all(STDOUT_FILENO, &output[..written]) {
                 os::fail(b"standard output");
                 return Passed::Failed;
@@ -69,7 +72,7 @@ fn read_blocks(direction: Direction, fd: i32, path: &[u8], writes: bool) -> Pass
 }
 
 // A pass over the file of this name.
-fn pass_over(direction: Direction, path: &[u8], writes: bool) -> Passed
+fn pass_over(direction: Direction, path: &[u8], writes: bool, most: u64) -> Passed
     ensures { λ r. ⌜ PassOf direction r ⌝ }
 {
     let fd = os::open_read(path);
@@ -77,7 +80,7 @@ fn pass_over(direction: Direction, path: &[u8], writes: bool) -> Passed
         os::fail(path);
         return Passed::Failed;
     }
-    let end = read_blocks(direction, fd, path, writes);
+    let end = read_blocks(direction, fd, path, writes, most);
     libc::close(fd);
     end
 }
@@ -91,21 +94,21 @@ fn say_refused(number: u8) {
 
 // The file of this name in the other form, on standard output; nothing if it is refused.
 fn convert_file(direction: Direction, path: &[u8]) {
-    let Passed::Ended(number, total) = pass_over(direction, path, false) else {
+    let Passed::Ended(number, total) = pass_over(direction, path, false, 0) else {
         return;
     };
     if number != 0 {
         say_refused(number);
         return;
     }
-    let Passed::Ended(again, written) = pass_over(direction, path, true) else {
+    let Passed::Ended(again, written) = pass_over(direction, path, true, total) else {
         return;
     };
     if again != 0 || written != total {
         io::write_all(STDERR_FILENO, path);
         io::write_all(
             STDERR_FILENO,
-            b": can not be read twice, or changed meanwhile: what was written is not whole\n",
+            b": can not be read twice, or changed meanwhile: what was written is not that file\n",
         );
     }
 }
