@@ -67,7 +67,7 @@ fn read_and_run(program: i32, program_path: &[u8], records: i32, records_path: &
 fn usage(fd: i32) {
     io::write_all(
         fd,
-        b"usage: frames PROGRAM RECORDS\nLoads the file PROGRAM and writes a line for each whole 128-byte record of the file RECORDS:\npass, drop, spent (10,000 steps used up), or refused and the number of the refusal.\nA program that is refused at load gives one line, refused and the number.\nRefusals: 5 the program is empty or above 65,280 bytes; 8 a record's data length is above 126,\nor a byte past its data is not 0.\nStandard error is empty if all went well; bytes at the end of RECORDS that are no whole record\nare counted there.\n",
+        b"usage: frames PROGRAM RECORDS\nLoads the file PROGRAM and writes a line for each whole 128-byte record of the file RECORDS:\npass, drop, spent (10,000 steps used up), or refused and the number of the refusal.\nA program that is refused at load gives one line, refused and the number.\nRefusals: 5 the program is empty or above 65,280 bytes; 8 a record's data length is above 126,\nor a byte past its data is not 0.\nA file of the old 64-byte records is not told from one of these: widen moves it to this form.\nStandard error is empty if all went well; bytes at the end of RECORDS that are no whole record\nare counted there.\n",
     );
 }
 

@@ -1,18 +1,18 @@
 -- The two moves of files of frame records, there and back: one argument for two forms. Assumes nothing.
 use mathlib.Core.Path.{_≡_, refl, sym, ap, _∙_}
-use mathlib.Core.Bool.{Bool, true, false, not, _&&_, _||_, true≢false}
+use mathlib.Core.Bool.{Bool, true, false, not, _&&_, true≢false}
 use mathlib.Core.List.{List, [], _∷_, _++_}
 use Prim.Native.Nat.{ℕ, zero, suc, _+_, _-_, _*_, _/_, _%_, _≤_, _<_}
 use native.Mathlib.Nat.{suc-sub-suc}
 use native.Mathlib.Omega.{arith}
-use lib.Dec.{eqb, ltb, leb, lit<}
+use lib.Dec.{ltb, leb}
 use lib.ListN.{length, getD, take, drop, length-append, length-take, length-drop, length-replicate, take-append-drop}
 use lib.Seq.{take-nil, drop-at, length-take-le}
-use borrow.Author.Tests.{leb-true, le-leb, lt-leb, ltb-true, ltb-false, le-ltb, not-false}
+use borrow.Author.Tests.{leb-true, le-leb, ltb-false, le-ltb, not-false}
 use Rattle.model.specs.Bytes.{Every, zeros}
 use Rattle.model.specs.Calls.{refusal, allZero, wellFormed}
 use Rattle.model.specs.Writes.{written, writeUnless, wrote}
-use Rattle.model.specs.Moves.{recordsOf, someRecord, eachRecord}
+use Rattle.model.specs.Moves.{recordsOf, someRecord}
 use Rattle.model.specs.RecordMoves.{oldForm, newForm, broken, tooLong, fitted, movedFile, fileRows, moveRows, moveCall, widenRecords, RecordsThereAndBack}
 use Rattle.model.specs.declared.Form.{Form}
 use Rattle.model.proofs.Moves.{Long, Passes, joined, all-long, all-pass, every-both, all-zero, or-left, or-right, unrefused, wrote-is, count-records, moved-whole, moved-length, moved-none, moved-back}

@@ -2,19 +2,18 @@
 use mathlib.Core.Path.{_≡_, refl, sym, ap, _∙_}
 use mathlib.Core.Bool.{Bool, true, false, cond, not, _||_}
 use mathlib.Core.List.{List, [], _∷_, _++_, append-assoc}
-use Prim.Native.Nat.{ℕ, zero, suc, _+_, _*_, _/_, _%_, _≤_, _<_}
+use Prim.Native.Nat.{ℕ, zero, suc, _+_, _*_, _%_, _≤_, _<_}
 use native.Mathlib.Nat.{mod-add-mod, zero-add}
 use native.Mathlib.Omega.{arith}
-use lib.Dec.{eqb, ltb, lit<}
-use lib.ListN.{length, take, drop, length-append}
+use lib.Dec.{eqb, lit<}
+use lib.ListN.{length, take, length-append}
 use lib.Seq.{take-append-le, drop-append-le}
 use borrow.Author.Tests.{eq-eqb, ne-eqb, le-ltb, not-false, eqb-true}
 use Rattle.model.specs.Calls.{refusal}
-use Rattle.model.specs.Writes.{WriteResult, written, writeUnless, wrote}
+use Rattle.model.specs.Writes.{WriteResult, writeUnless}
 use Rattle.model.specs.Moves.{pieces, recordsOf, someRecord, eachRecord}
-use Rattle.model.specs.RecordMoves.{oldForm, newForm, broken, tooLong, fitted, movedFile, fileRows, moveRows, moveCall}
+use Rattle.model.specs.RecordMoves.{oldForm, newForm, movedFile, fileRows, moveRows, moveCall}
 use Rattle.model.specs.Replies.{ofWrite}
-use Rattle.model.specs.declared.Form.{Form}
 use Rattle.model.specs.declared.WriteReply.{WriteReply}
 use Rattle.model.proofs.Numbers.{no-rows, passed-over, given-by}
 use Rattle.model.proofs.Moves.{first-record, no-record, by-records, wrote-is}

@@ -4,14 +4,12 @@ use mathlib.Core.Bool.{Bool, true, false, not}
 use mathlib.Core.List.{List, [], _++_}
 use Prim.Native.Nat.{ℕ, _+_, _*_, _/_, _%_, _≤_, _<_}
 use native.Mathlib.Nat.{div-lt-iff-lt-mul, le-div-iff-mul-le}
-use native.Mathlib.Omega.{arith}
-use lib.Dec.{eqb}
 use lib.ListN.{length, drop}
 use borrow.Author.Tests.{ne-eqb, lt-ltb}
 use Rattle.model.specs.Calls.{refusal}
 use Rattle.model.specs.Writes.{WriteResult, unwritten, writeUnless}
-use Rattle.model.specs.Moves.{recordsOf, someRecord, eachRecord}
-use Rattle.model.specs.RecordMoves.{broken, tooLong, fitted, movedFile, fileRows, moveRows, moveCall}
+use Rattle.model.specs.Moves.{recordsOf, someRecord}
+use Rattle.model.specs.RecordMoves.{broken, tooLong, movedFile, fileRows, moveRows, moveCall}
 use Rattle.model.specs.declared.Form.{Form}
 use Rattle.model.proofs.Numbers.{passed-over, given-by, right}
 use Rattle.model.proofs.RecordMoves.{Taken, move-done, moved-size}

@@ -1,11 +1,10 @@
 -- The loops over a file of frame records: what each turn asks, and what it leaves. Assumes nothing.
-use mathlib.Core.Path.{_≡_, refl, sym, ap, _∙_}
+use mathlib.Core.Path.{_≡_, sym, ap, _∙_}
 use mathlib.Core.Bool.{Bool, true, false, not}
 use mathlib.Core.List.{List, _++_, append-assoc}
 use Prim.Native.Nat.{ℕ, _+_, _-_, _≤_, _<_, min}
 use native.Mathlib.Decide.{decLt}
 use native.Mathlib.Omega.{arith}
-use lib.Dec.{eqb}
 use lib.ListN.{length, getD, take, drop, length-drop}
 use lib.Seq.{take-all, take-take, drop-drop, length-take-le}
 use borrow.Author.Tests.{lt-ltb, le-ltb}
@@ -15,7 +14,7 @@ use Rattle.model.specs.Calls.{wellFormed}
 use Rattle.model.specs.Moves.{recordsOf, eachRecord}
 use Rattle.model.specs.RecordMoves.{broken, tooLong, fitted}
 use Rattle.model.proofs.RecordMoves.{long-fitted}
-use Rattle.moves.proofs.Sheets.{Place, Moved, piece-is, entry-long, room, moved-room, moved-next}
+use Rattle.moves.proofs.Sheets.{Moved, piece-is, entry-long, room, moved-room, moved-next}
 
 -- ---- a record
 

@@ -1,6 +1,5 @@
 -- `records::fit_records` meets its contract. Assumes nothing.
-use Prim.Native.Nat.{_-_, min}
-use mathlib.Core.Path.{_≡_}
+use Prim.Native.Nat.{_-_}
 use native.Mathlib.Omega.{arith}
 use lib.ListN.{length}
 use Rattle.model.specs.RecordMoves.{fitted}
