@@ -80,7 +80,17 @@ fn numbers(text: &str) -> Vec<usize> {
 
 #[test]
 fn help() {
-    let of_frames = [RECORD, BUDGET as usize, 5, PROGRAM_LIMIT, 8, RECORD - 2, 0];
+    let budget = BUDGET as usize;
+    let of_frames = [
+        RECORD,
+        budget,
+        5,
+        PROGRAM_LIMIT,
+        8,
+        RECORD - 2,
+        0,
+        OLD_RECORD,
+    ];
     let of_sheet = [5, 9, ADMIT_LIMIT, 11];
     // The mode 2 is for 16 bits.
     let of_explain = [5, 9, ADMIT_LIMIT, 11, 2, 16];
