@@ -221,13 +221,18 @@ pub fn run(command: &mut Command, input: &[u8]) -> Output {
     run_in_pieces(command, input, input.len().max(1), Duration::ZERO)
 }
 
-pub fn run_in_pieces(command: &mut Command, input: &[u8], piece: usize, pause: Duration) -> Output {
-    let mut child = command
+/// A program that has begun, with pipes for its input, its output and its messages.
+pub fn begun(command: &mut Command) -> Child {
+    command
         .stdin(Stdio::piped())
         .stdout(Stdio::piped())
         .stderr(Stdio::piped())
         .spawn()
-        .expect("the program starts");
+        .expect("the program starts")
+}
+
+pub fn run_in_pieces(command: &mut Command, input: &[u8], piece: usize, pause: Duration) -> Output {
+    let mut child = begun(command);
     let stdin = child.stdin.take().unwrap();
     let input = input.to_vec();
     let writer = thread::spawn(move || feed(stdin, &input, || (piece, pause)));

@@ -20,9 +20,9 @@ use std::time::{Duration, Instant};
 use uxn_filter_harness::calls::{OLD_RECORD, RECORD};
 use uxn_filter_harness::compiled::repository;
 use uxn_filter_harness::linked::{
-    self, after, assert_writes, assert_written, ends, failing, feed, file, full, pipe, signal,
-    Conversion, Written, BLOCK_BYTES, IS_FOLDER, NARROW, NOT_OPEN, NOT_READ, NO_FILE, NO_READER,
-    NO_SPACE, OUTPUT, PATIENCE, SIGPIPE, STDIN, WIDEN,
+    self, after, assert_writes, assert_written, begun, ends, failing, feed, file, full, pipe,
+    signal, Conversion, Written, BLOCK_BYTES, IS_FOLDER, NARROW, NOT_OPEN, NOT_READ, NO_FILE,
+    NO_READER, NO_SPACE, OUTPUT, PATIENCE, SIGPIPE, STDIN, WIDEN,
 };
 use uxn_filter_harness::moves::Due;
 use uxn_filter_harness::pair::say;
@@ -574,13 +574,7 @@ fn standard_input() {
                 _ => conversion.expected(&bytes),
             };
             let what = format!("{} of a pipe with {length} bytes", conversion.name);
-            let mut child = conversion
-                .of(STDIN)
-                .stdin(Stdio::piped())
-                .stdout(Stdio::piped())
-                .stderr(Stdio::piped())
-                .spawn()
-                .expect("the program starts");
+            let mut child = begun(&mut conversion.of(STDIN));
             let stdin = child.stdin.take().unwrap();
             let writer = thread::spawn(move || feed(stdin, &bytes, || (1_000, Duration::ZERO)));
             assert_written(&ended(child, &what), &expected, &what);

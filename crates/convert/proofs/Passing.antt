@@ -7,7 +7,7 @@ use lib.ListN.{length, length-append}
 use Rattle.records.specs.Blocks.{fromForm, fileNumber, earlier}
 use Rattle.records.specs.declared.Direction.{Direction}
 use Rattle.records.proofs.Blocks.{number-cut, number-none}
-use Rattle.convert.specs.Passes.{CameInAll}
+use Rattle.convert.specs.Passes.{FileCame}
 
 -- the blocks so far, all of them full, are of whole records, and this is their number
 abbrev pub SoFar : Direction → ℕ → Type 0
@@ -22,7 +22,7 @@ module _ (direction : Direction) (number k : ℕ) (block : List ℕ) (s : SoFar 
   same = e ∙ ap (λ m. earlier m (fileNumber direction block)) (s .2) ∙ sym (number-cut direction (s .0) block (s .1))
 
   -- with one block more
-  pub came : CameInAll direction k
+  pub came : FileCame direction k
   came = (s .0 ++ block, same)
 
   -- one that is full
@@ -36,5 +36,5 @@ module _ (direction : Direction) (number k : ℕ) (block : List ℕ) (s : SoFar 
       whole Direction.Widen w = rw long (omega arith)
       whole Direction.Narrow w = rw long (omega arith)
 
-pub so-far : (direction : Direction) (number : ℕ) → SoFar direction number → CameInAll direction number
+pub so-far : (direction : Direction) (number : ℕ) → SoFar direction number → FileCame direction number
 so-far direction number s = (s .0, s .2)

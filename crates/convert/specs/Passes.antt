@@ -8,9 +8,9 @@ use Rattle.records.specs.declared.Direction.{Direction}
 use Rattle.convert.specs.declared.Passed.{Passed}
 
 -- some bytes came in all, and this is the number of the file that they are
-abbrev pub CameInAll : Direction → ℕ → Type 0
-CameInAll direction number = (bytes : List ℕ) × (number ≡ fileNumber direction bytes)
+abbrev pub FileCame : Direction → ℕ → Type 0
+FileCame direction number = (bytes : List ℕ) × (number ≡ fileNumber direction bytes)
 
 abbrev pub PassOf : Direction → Passed → Type 0
-PassOf direction (Passed.Ended number total) = CameInAll direction number
+PassOf direction (Passed.Ended number total) = FileCame direction number
 PassOf direction Passed.Failed = Unit {0}

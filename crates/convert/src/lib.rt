@@ -2,11 +2,11 @@
 // for refusals and writes nothing, a second one writes.
 use input::Input;
 use input::read_to_end;
+use input::say_refused;
 use libc::STDERR_FILENO;
 use libc::STDOUT_FILENO;
 use records::Direction;
 use records::take_block;
-use text::put_refused;
 ghost use mathlib.Core.Path.{_≡_};
 ghost use lib.ListN.{length};
 ghost use Rattle.convert.specs.Passes.{PassOf};
@@ -83,13 +83,6 @@ fn pass_over(direction: Direction, path: &[u8], writes: bool, most: u64) -> Pass
     let end = read_blocks(direction, fd, path, writes, most);
     libc::close(fd);
     end
-}
-
-// "refused" with a space and the number, on standard error.
-fn say_refused(number: u8) {
-    let mut line = [0u8; 12];
-    let n = put_refused(&mut line, 0, number);
-    io::write_all(STDERR_FILENO, &line[..n]);
 }
 
 // The file of this name in the other form, on standard output; nothing if it is refused.

@@ -1,4 +1,6 @@
-// Reading an input that may come in pieces, and the argument that asks for help.
+// Reading an input that may come in pieces, the argument that asks for help, and the message of a refusal.
+use libc::STDERR_FILENO;
+use text::put_refused;
 ghost use mathlib.Core.Path.{_≡_};
 ghost use Prim.Native.Nat.{_≤_};
 ghost use lib.ListN.{length, take};
@@ -55,4 +57,11 @@ pub fn asks_for_help() -> bool {
     let mut word = io::buffer();
     let n = os::arg(1, &mut word);
     is_help(&word[..n])
+}
+
+// "refused" with a space and the number, on standard error: where nothing is written on standard output.
+pub fn say_refused(number: u8) {
+    let mut line = [0u8; 12];
+    let n = put_refused(&mut line, 0, number);
+    io::write_all(STDERR_FILENO, &line[..n]);
 }

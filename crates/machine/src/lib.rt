@@ -150,7 +150,7 @@ pub fn event(
     event_of(end, budget)
 }
 
-// "Port F2 is set to 0, the record is written to memory 0080 to 00FF, both pointers become 0, and the program runs from 0100
+// "Port F2 is set to 0", C-16: the record is "written to 0080 to 00FF", "both pointers become 0, and the program runs from 0100
 // with the budget given."; C-20: the high marks become 0; C-18: it watches nothing
 pub fn frame(
     m: Machine,

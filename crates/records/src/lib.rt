@@ -148,7 +148,7 @@ pub enum Direction {
 }
 
 // The number that the file is refused with so far, or 0, and how many bytes of the block in the other form there are.
-pub struct Taken {
+pub struct BlockMoved {
     pub number: u8,
     pub written: usize,
 }
@@ -189,17 +189,17 @@ fn move_block(direction: Direction, block: &[u8], output: &mut [u8]) -> WriteRep
 
 // One block more of a file whose blocks so far are of whole records, and have this number: its records in the other form at the start of
 // the output, if it is not refused.
-pub fn take_block(direction: Direction, number: u8, block: &[u8], output: &mut [u8]) -> Taken
+pub fn take_block(direction: Direction, number: u8, block: &[u8], output: &mut [u8]) -> BlockMoved
     requires { ⌜ 2 * length (now block) ≤ length (now output) ⌝ }
     ensures { λ r. ⌜ r .number ≡ earlier number (fileNumber direction (now (block .entry))) ⌝ }
     ensures { λ r. ⌜ (r .written ≤ length (now (output .exit))) × (take (r .written) (now (output .exit)) ≡ fileMoved direction (now (block .entry))) ⌝ }
 {
     match move_block(direction, block, output) {
-        WriteReply::Written(written) => Taken {
+        WriteReply::Written(written) => BlockMoved {
             number: earlier_of(number, 0),
             written,
         },
-        WriteReply::Refused(refused) => Taken {
+        WriteReply::Refused(refused) => BlockMoved {
             number: earlier_of(number, refused),
             written: 0,
         },

@@ -3,11 +3,11 @@ use admission::admit;
 use input::Input;
 use input::asks_for_help;
 use input::read_to_end;
+use input::say_refused;
 use libc::STDERR_FILENO;
 use libc::STDIN_FILENO;
 use libc::STDOUT_FILENO;
 use model::AdmitReply;
-use text::put_refused;
 ghost use mathlib.Core.Path.{_≡_};
 ghost use Prim.Native.Nat.{_*_, _≤_};
 ghost use lib.ListN.{length, take};
@@ -40,13 +40,6 @@ fn make_sheet(program: &[u8], sheet: &mut [u8]) -> Made
         },
         AdmitReply::Refused(number) => Made { bytes: 0, number },
     }
-}
-
-// "refused" with a space and the number, on standard error: nothing is written on standard output.
-fn say_refused(number: u8) {
-    let mut line = [0u8; 12];
-    let n = put_refused(&mut line, 0, number);
-    io::write_all(STDERR_FILENO, &line[..n]);
 }
 
 fn usage(fd: i32) {

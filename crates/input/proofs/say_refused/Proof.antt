@@ -1,9 +1,9 @@
--- `sheet::say_refused` meets its contract. Assumes nothing.
+-- `input::say_refused` meets its contract. Assumes nothing.
 use native.Mathlib.Omega.{arith}
 use Rattle.io.proofs.Counting.{counts}
 use borrow.Author.Needs.{needs}
-use Rattle.sheet.proofs.say_refused.Statement.{statement}
-use Rattle.sheet.proofs.say_refused.Tie as tie
+use Rattle.input.proofs.say_refused.Statement.{statement}
+use Rattle.input.proofs.say_refused.Tie as tie
 
 slice-aggregate-write-all : tie.Need-slice-aggregate-write-all
 slice-aggregate-write-all c = counts (c .before .before .put-refused .result) (c .before .before .put-refused .last .0) (omega arith) .1
