@@ -1,3 +1,3 @@
 pub mod Blocks
-pub mod Loads
+pub mod Installs
 pub mod Moving

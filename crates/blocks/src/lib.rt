@@ -1,4 +1,4 @@
-// The work of the program `frames`, without its input and output: the load with its line, and frame calls with their lines for
+// The work of the program `frames`, without its input and output: the install with its line, and frame calls with their lines for
 // the records of a block.
 use model::FrameReply;
 use model::LoadReply;
@@ -10,7 +10,9 @@ ghost use mathlib.Core.List.{_++_};
 ghost use Prim.Native.Nat.{_*_, _/_, _-_, _≤_, _<_};
 ghost use lib.ListN.{length, take, drop};
 ghost use Rattle.model.specs.Machine.{State, state};
-ghost use Rattle.model.specs.Calls.{frameSize, loadCall};
+ghost use Rattle.model.specs.Calls.{frameSize, installCall};
+ghost use Rattle.model.specs.Run.Answer.{Loaded};
+ghost use Rattle.model.specs.Admission.{sheetRecord};
 ghost use Rattle.model.specs.Replies.{ofFrame};
 ghost use Rattle.text.specs.Lines.{line, lineMost};
 ghost use Rattle.blocks.specs.Frames.{wholeRecords, machineAfter, firstLines, judged};
@@ -20,6 +22,9 @@ const BUDGET: u32 = 10000;
 
 // C-16: "the record becomes 128 bytes"
 const RECORD: usize = 128;
+
+// C-19: "The sheet record becomes 8 bytes"
+const SHEET_RECORD: usize = 8;
 
 // The machine record afterwards, and how many bytes of lines there are.
 pub struct Done {
@@ -34,23 +39,28 @@ pub struct Worked {
     pub waiting: usize,
 }
 
-// The load of the program. "A program refused at load gives that one line alone": there is no line otherwise.
-pub fn load(
+// The install of the program, with as much of `sheet` as it asks for. "A program refused at load gives that one line alone": there is
+// no line otherwise, and without one the program is admitted and stands in memory.
+pub fn install(
     m: Machine,
     memory: &mut [u8],
     devices: &mut [u8],
     work: &mut [u8],
     ret: &mut [u8],
     program: &[u8],
+    sheet: &mut [u8],
     out: &mut [u8],
 ) -> Done
-    requires { ⌜ lineMost ≤ length (now out) ⌝ }
+    requires { ⌜ (sheetRecord * length (now program) ≤ length (now sheet)) × (lineMost ≤ length (now out)) ⌝ }
     ensures { λ r. ⌜ state (now (memory .exit)) (now (devices .exit)) (now (work .exit)) (now (ret .exit)) (r .machine)
-        ≡ loadCall (now (program .entry)) (state (now (memory .entry)) (now (devices .entry)) (now (work .entry)) (now (ret .entry)) m) .state ⌝ }
+        ≡ installCall (now (program .entry)) (take (sheetRecord * length (now (program .entry))) (now (sheet .entry))) (state (now (memory .entry)) (now (devices .entry)) (now (work .entry)) (now (ret .entry)) m) .reply .state ⌝ }
     ensures { λ r. ⌜ (r .written ≤ length (now (out .exit))) × (take (r .written) (now (out .exit))
-        ≡ line (loadCall (now (program .entry)) (state (now (memory .entry)) (now (devices .entry)) (now (work .entry)) (now (ret .entry)) m))) ⌝ }
+        ≡ line (installCall (now (program .entry)) (take (sheetRecord * length (now (program .entry))) (now (sheet .entry))) (state (now (memory .entry)) (now (devices .entry)) (now (work .entry)) (now (ret .entry)) m) .reply)) ⌝ }
+    ensures { λ r. ⌜ (r .written ≡ 0
+        → installCall (now (program .entry)) (take (sheetRecord * length (now (program .entry))) (now (sheet .entry))) (state (now (memory .entry)) (now (devices .entry)) (now (work .entry)) (now (ret .entry)) m) .reply .answer ≡ Loaded) ⌝ }
 {
-    match machine::load(m, memory, devices, work, ret, program) {
+    let n = SHEET_RECORD * program.len();
+    match install::install(m, memory, devices, work, ret, program, &mut sheet[..n]) {
         LoadReply::Loaded(machine) => Done {
             machine,
             written: 0,

@@ -1,11 +1,15 @@
-// What load and frame write to memory and device page.
+// What load and frame write to memory, device page and stacks.
+use model::Machine;
 ghost use mathlib.Core.Path.{_≡_};
 ghost use mathlib.Core.List.{_++_};
 ghost use Prim.Native.Nat.{_+_, _-_, _≤_};
 ghost use lib.ListN.{length, getD, set, take, drop};
 ghost use Rattle.model.specs.Bytes.{zeros};
-ghost use Rattle.model.specs.Machine.{memorySize, pageSize};
+ghost use Rattle.model.specs.Machine.{memorySize, pageSize, stackSize, state};
 ghost use Rattle.model.specs.Calls.{loadMost, load, frameSize, framePlace, verdictPort};
+
+// A program starts at 0100 hexadecimal.
+const START: u16 = 0x0100;
 
 pub fn clear(bytes: &mut [u8])
     ensures { λ _. ⌜ now (bytes .exit) ≡ zeros (length (now (bytes .entry))) ⌝ }
@@ -47,6 +51,31 @@ pub fn load_memory(memory: &mut [u8], program: &[u8])
 {
     clear(&mut memory[0..256]);
     fill(&mut memory[256..], program);
+}
+
+// "device page and stacks are zero; both pointers 0; counter 0100"; C-20: the high marks are 0.
+pub fn put_program(
+    memory: &mut [u8],
+    devices: &mut [u8],
+    work: &mut [u8],
+    ret: &mut [u8],
+    program: &[u8],
+) -> Machine
+    requires { ⌜ (length (now memory) ≡ memorySize) × (length (now devices) ≡ pageSize) × (length (now work) ≡ stackSize)
+        × (length (now ret) ≡ stackSize) × (length (now program) ≤ loadMost) ⌝ }
+    ensures { λ m. ⌜ state (now (memory .exit)) (now (devices .exit)) (now (work .exit)) (now (ret .exit)) m ≡ load (now (program .entry)) ⌝ }
+{
+    load_memory(memory, program);
+    clear(devices);
+    clear(work);
+    clear(ret);
+    Machine {
+        pc: START,
+        wp: 0,
+        rp: 0,
+        wp_high: 0,
+        rp_high: 0,
+    }
 }
 
 // Frame, C-16: the record is "written to 0080 to 00FF"; the frame area from 0080, which is 128, is handed on.

@@ -1,4 +1,5 @@
-// The calls as a static library for C: include/uxn_filter.h declares them, and says what each number means.
+// The calls as a static library for C: include/uxn_filter.h declares them, and says what each number means; include/uxn_bench.h declares
+// the plain load.
 use creply::Reply;
 use creply::Why;
 use creply::Written;
@@ -14,10 +15,10 @@ use creply::watch_of;
 use model::Machine;
 ghost use mathlib.Core.Path.{_≡_};
 ghost use Rattle.model.specs.Machine.{state};
-ghost use Rattle.model.specs.Calls.{loadCall, stepCall, runCall, eventCall, frameCall, admitCall};
+ghost use Rattle.model.specs.Calls.{loadCall, stepCall, runCall, eventCall, frameCall, admitCall, installCall};
 ghost use Rattle.model.specs.Moves.{widenCall, narrowCall};
 ghost use Rattle.model.specs.RecordMoves.{widenRecords, narrowRecords};
-ghost use Rattle.creply.specs.Exported.{watchOf, returned, exported, admitReturned, exportedAdmit, writeReturned, exportedWrite};
+ghost use Rattle.creply.specs.Exported.{watchOf, returned, exported, admitReturned, exportedAdmit, installReturned, exportedInstall, writeReturned, exportedWrite};
 ghost use Rattle.creply.specs.Why.{WhyOf};
 
 #[no_mangle]
@@ -32,7 +33,23 @@ pub extern "C" fn uxn_load(
     ensures { λ r. ⌜ returned r (now (memory .exit)) (now (devices .exit)) (now (work .exit)) (now (ret .exit))
         ≡ exported (loadCall (now (program .entry)) (state (now (memory .entry)) (now (devices .entry)) (now (work .entry)) (now (ret .entry)) machine)) ⌝ }
 {
-    of_load(machine::load(machine, memory, devices, work, ret, program))
+    of_load(load::load(machine, memory, devices, work, ret, program))
+}
+
+#[no_mangle]
+pub extern "C" fn uxn_install(
+    machine: Machine,
+    memory: &mut [u8],
+    devices: &mut [u8],
+    work: &mut [u8],
+    ret: &mut [u8],
+    program: &[u8],
+    sheet: &mut [u8],
+) -> Reply
+    ensures { λ r. ⌜ installReturned (returned r (now (memory .exit)) (now (devices .exit)) (now (work .exit)) (now (ret .exit))) (now (sheet .exit))
+        ≡ exportedInstall (installCall (now (program .entry)) (now (sheet .entry)) (state (now (memory .entry)) (now (devices .entry)) (now (work .entry)) (now (ret .entry)) machine)) ⌝ }
+{
+    of_load(install::install(machine, memory, devices, work, ret, program, sheet))
 }
 
 #[no_mangle]

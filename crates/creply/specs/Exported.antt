@@ -7,7 +7,7 @@ use lib.ListN.{length, getD}
 use Rattle.model.specs.Machine.{registers}
 use Rattle.model.specs.Run.{Answer, Reply}
 use Rattle.model.specs.Run.Answer.{Refused, Loaded, WentOn, Broke, Spent, Paused, Ignored, Admitted}
-use Rattle.model.specs.Calls.{numberOf, AdmitResult}
+use Rattle.model.specs.Calls.{numberOf, AdmitResult, InstallResult}
 use Rattle.model.specs.Writes.{WriteResult}
 use Rattle.model.specs.declared.Machine.{Machine}
 use Rattle.model.specs.declared.Watch.{Watch}
@@ -81,6 +81,17 @@ admitReturned number sheet = record { number = number; sheet = sheet }
 
 abbrev pub exportedAdmit : AdmitResult → AdmitReturned
 exportedAdmit r = admitReturned (numberOf (r .answer)) (r .sheet)
+
+-- What uxn_install leaves: what a call on a machine does, and the sheet.
+pub record InstallReturned : Type 0 where
+  pub call : Returned
+  pub sheet : List ℕ
+
+abbrev pub installReturned : Returned → List ℕ → InstallReturned
+installReturned call sheet = record { call = call; sheet = sheet }
+
+abbrev pub exportedInstall : InstallResult → InstallReturned
+exportedInstall r = installReturned (exported (r .reply)) (r .sheet)
 
 -- What a call that writes leaves: the struct, whose line is 0, and the output.
 pub record WriteReturned : Type 0 where

@@ -1,7 +1,7 @@
-// frames PROGRAM RECORDS: loads the program, makes a frame call for each whole record, and writes a line for each.
+// frames PROGRAM RECORDS: installs the program, makes a frame call for each whole record, and writes a line for each.
 mod stream;
 
-use blocks::load;
+use blocks::install;
 use input::Input;
 use input::asks_for_help;
 use input::read_to_end;
@@ -9,8 +9,14 @@ use libc::STDERR_FILENO;
 use libc::STDOUT_FILENO;
 use model::Machine;
 use stream::stream_records;
+ghost use Prim.Native.Nat.{_+_, _≤_};
+ghost use lib.ListN.{length};
+ghost use Rattle.model.specs.Admission.{admitMost};
 
-fn run(program: &[u8], records: i32, records_path: &[u8]) {
+// The sheet has room for one byte more than an install takes.
+fn run(program: &[u8], records: i32, records_path: &[u8])
+    requires { ⌜ length (now program) ≤ 1 + admitMost ⌝ }
+{
     // "Fresh stacks are 256 bytes of zero"
     let mut memory = [0u8; 65536];
     let mut devices = [0u8; 256];
@@ -24,24 +30,26 @@ fn run(program: &[u8], records: i32, records_path: &[u8]) {
         rp_high: 0,
     };
     // "A program refused at load gives that one line alone."
+    let mut sheet = [0u8; 32776];
     let mut line = [0u8; 12];
-    let loaded = load(
+    let installed = install(
         fresh,
         &mut memory,
         &mut devices,
         &mut work,
         &mut ret,
         program,
+        &mut sheet,
         &mut line,
     );
-    let n = loaded.written;
+    let n = installed.written;
     if n != 0 {
         if !io::write_all(STDOUT_FILENO, &line[..n]) {
             os::fail(b"standard output");
         }
         return;
     }
-    let m = loaded.machine;
+    let m = installed.machine;
     stream_records(
         m,
         &mut memory,
@@ -55,8 +63,8 @@ fn run(program: &[u8], records: i32, records_path: &[u8]) {
 
 // Both files are open; the paths are for messages.
 fn read_and_run(program: i32, program_path: &[u8], records: i32, records_path: &[u8]) {
-    // One byte more than a load takes, so that a longer program is seen and refused.
-    let mut bytes = [0u8; 65281];
+    // One byte more than an install takes, so that a longer program is seen and refused.
+    let mut bytes = [0u8; 4097];
     let Input::Bytes(n) = read_to_end(program, &mut bytes) else {
         os::fail(program_path);
         return;
@@ -67,7 +75,7 @@ fn read_and_run(program: i32, program_path: &[u8], records: i32, records_path: &
 fn usage(fd: i32) {
     io::write_all(
         fd,
-        b"usage: frames PROGRAM RECORDS\nLoads the file PROGRAM and writes a line for each whole 128-byte record of the file RECORDS:\npass, drop, spent (10,000 steps used up), or refused and the number of the refusal.\nA program that is refused at load gives one line, refused and the number.\nRefusals: 5 the program is empty or above 65,280 bytes; 8 a record's data length is above 126,\nor a byte past its data is not 0.\nA file of the old 64-byte records is not told from one of these: widen moves it to this form.\nStandard error is empty if all went well; bytes at the end of RECORDS that are no whole record\nare counted there.\n",
+        b"usage: frames PROGRAM RECORDS\nInstalls the filter in the file PROGRAM and writes a line for each whole 128-byte record of the file\nRECORDS: pass, drop, spent (10,000 steps used up), or refused and the number of the refusal.\nA program that is not admitted is not run: it gives one line, refused and the number.\nRefusals: 5 the program is empty, 9 it is above 4,096 bytes, 11 no depths and routines obey the\nadmission rules (explain says why); 8 a record's data length is above 126, or a byte past its data\nis not 0.\nA file of the old 64-byte records is not told from one of these: widen moves it to this form.\nStandard error is empty if all went well; bytes at the end of RECORDS that are no whole record\nare counted there.\n",
     );
 }
 

@@ -1,22 +1,24 @@
 -- Demand 3 at two filters, each with a list of calls: its hypotheses can be met, and its calls are run and refused as they should
 -- be.
 -- Assumes nothing.
-use mathlib.Core.Path.{_≡_, refl}
+use mathlib.Core.Path.{_≡_, refl, ap}
 use mathlib.Core.Bool.{Bool, true, cond, _&&_}
 use mathlib.Core.List.{List, [], _∷_}
-use Prim.Native.Nat.{ℕ, _*_, _-_}
+use Prim.Native.Nat.{ℕ, suc, _+_, _*_, _-_}
+use native.Mathlib.Omega.{arith}
 use lib.Dec.{T, eqb, ltb, ltb→lt}
 use lib.ListN.{replicate}
 use borrow.Author.Tests.{eqb-false}
 use Rattle.model.specs.Bytes.{Bytes, zeros}
 use Rattle.model.specs.Machine.{memorySize, pageSize, stackSize, State}
 use Rattle.model.specs.Step.{fetched, step}
-use Rattle.model.specs.Run.{Answer, trace}
-use Rattle.model.specs.Run.Answer.{Refused, Loaded, Broke, Spent, Admitted}
-use Rattle.model.specs.Admission.{sheetRecord}
-use Rattle.model.specs.Calls.{loadCall, frameCall, frameTrace, admitCall}
+use Rattle.model.specs.Run.{Answer, Reply, trace}
+use Rattle.model.specs.Run.Answer.{Refused, Loaded, Broke, Spent}
+use Rattle.model.specs.Admission.{admitMost, sheetRecord}
+use Rattle.model.specs.Calls.{numberOf, frameCall, frameTrace, InstallResult, installCall}
 use Rattle.model.specs.Cases.{used, frameRecord}
-use Rattle.model.specs.Demand3.{Filling, Lent, Call, filled, given, handedBack, called, next, greatestOf, greatestDepth, Safe}
+use Rattle.model.specs.Demand3.{Filling, Request, Lent, Call, filled, given, handedBack, called, traced, next, InstallsRefused, greatestOf, greatestDepth, Safe}
+use Rattle.model.specs.Demand3.Request.{frame, install}
 use Rattle.model.specs.Demand3.Lent.{own, other}
 use Rattle.model.proofs.Bytes.{nil-bytes, cons-bytes}
 use Rattle.model.proofs.Tests.{and-left, and-right}
@@ -55,10 +57,11 @@ filter-bytes = all-bytes filter tt
 filling : Filling 256
 filling = record { bytes = replicate 256 0xA5; size = refl; areBytes = all-bytes (replicate 256 0xA5) tt }
 
--- the lent buffers, the frame and the budget
-abbrev call : Lent memorySize → Lent pageSize → Lent stackSize → Lent stackSize → (frame : List ℕ) → T (allBytes frame) → ℕ → Call
-call memory devices work ret frame t budget =
+-- what is called, and the lent buffers
+abbrev call : (r : Request) → Lent r memorySize → Lent r pageSize → Lent r stackSize → Lent r stackSize → Call
+call r memory devices work ret =
     record {
+      request = r;
       zeroPage = filling;
       devicePage = filling;
       workBytes = filling;
@@ -67,49 +70,80 @@ call memory devices work ret frame t budget =
       devices = devices;
       work = work;
       ret = ret;
-      frame = frame;
-      frameBytes = all-bytes frame t;
-      budget = budget;
     }
 
--- empty, in place of a buffer of 256 bytes
-abbrev none : Lent 256
+-- a frame call, its record and its budget
+abbrev judge : (bytes : List ℕ) → T (allBytes bytes) → ℕ → Request
+judge bytes t budget = frame bytes (all-bytes bytes t) budget
+
+-- on the machine's own buffers
+abbrev plain : Request → Call
+plain r = call r own own own own
+
+-- a frame of no data
+abbrev empty : Request
+empty = judge (frameRecord 0 []) tt 100
+
+-- no bytes, in place of a buffer of 256
+abbrev none : Lent empty 256
 none = other [] (eqb-false 0 256 refl)
 
 pub calls : List Call
 calls =
-    call own own own own (frameRecord 3 (0x05 ∷ 0x0C ∷ 0x09 ∷ [])) tt 100  -- checksum 0
-    ∷ call own own own own (127 ∷ zeros 127) tt 100  -- L above 126
-    ∷ call own own own own (zeros 127) tt 100  -- a record of 127 bytes
-    ∷ call (other (zeros 65535) (eqb-false 65535 65536 refl)) own own own (frameRecord 0 []) tt 100  -- a memory of 65,535 bytes
-    ∷ call own none own none (frameRecord 0 []) tt 100  -- no device page and no return stack
-    ∷ call own own own own (frameRecord 0 []) tt 0  -- budget 0
-    ∷ call own own own own (frameRecord 2 (0x05 ∷ 0x06 ∷ [])) tt 20  -- a budget that ends in the loop
-    ∷ call own own own own (frameRecord 2 (0x05 ∷ 0x06 ∷ [])) tt 100  -- checksum 3
+    plain (judge (frameRecord 3 (0x05 ∷ 0x0C ∷ 0x09 ∷ [])) tt 100)  -- checksum 0
+    ∷ plain (judge (127 ∷ zeros 127) tt 100)  -- L above 126
+    ∷ plain (judge (zeros 127) tt 100)  -- a record of 127 bytes
+    ∷ call empty (other (zeros 65535) (eqb-false 65535 65536 refl)) own own own  -- a memory of 65,535 bytes
+    ∷ call empty own none own none  -- no device page and no return stack
+    ∷ plain (install [] [])  -- C-15: an install of no program
+    ∷ plain (install (zeros (admitMost + 1)) [])  -- of one above 4,096 bytes
+    ∷ plain (install (0x00 ∷ []) (zeros 7))  -- with a sheet of 7 bytes
+    ∷ plain (install (0x02 ∷ 0x00 ∷ []) (zeros 16))  -- of one that pops from an empty stack
+    ∷ call (install (0x00 ∷ []) (zeros 8)) own own own (other (zeros 255) tt)  -- of a good one, with a return stack of 255 bytes
+    ∷ call (install [] []) own (other (zeros 256) tt) own own  -- with another device page, of the right length
+    ∷ plain (judge (frameRecord 0 []) tt 0)  -- budget 0
+    ∷ plain (judge (frameRecord 2 (0x05 ∷ 0x06 ∷ [])) tt 20)  -- a budget that ends in the loop
+    ∷ plain (judge (frameRecord 2 (0x05 ∷ 0x06 ∷ [])) tt 100)  -- checksum 3
     ∷ []
 
-admits : admitCall filter (zeros (sheetRecord * 34)) .answer ≡ Admitted
-unfolding filter calling
-admits = refl
+-- the install of the filter, on a machine that is in use
+abbrev pub start : InstallResult
+start = installCall filter (zeros (sheetRecord * 34)) used
 
-loads : loadCall filter used .answer ≡ Loaded
+installs : start .reply .answer ≡ Loaded
 unfolding filter used calling
-loads = refl
+installs = refl
+
+-- a number is given
+numbered : (a : Answer) (n : ℕ) → numberOf a ≡ suc n → a ≡ Loaded → ⊥
+numbered a n e f = let z = ap numberOf f in absurd (omega arith)
+
+-- each install of the list is refused
+stands : InstallsRefused (start .reply .state) calls
+unfolding calls filling filter used filled given handedBack calling
+stands =
+    (tt, (tt, (tt, (tt, (tt, (numbered _ 4 refl, (numbered _ 8 refl, (numbered _ 9 refl, (numbered _ 10 refl, (numbered _ 3 refl, (numbered _ 4 refl, (tt, (tt, (tt, tt))))))))))))))
 
 -- the theorem, here
-pub instance : Safe filter (admitCall filter (zeros (sheetRecord * 34)) .sheet) (loadCall filter used .state) calls
-instance = demand3 .safe filter (zeros (sheetRecord * 34)) filter-bytes admits used loads calls
+pub instance : Safe filter (start .sheet) (start .reply .state) calls
+instance = demand3 .safe filter (zeros (sheetRecord * 34)) filter-bytes used installs calls stands
 
 -- ---- what these calls reply: answer, steps and verdict of each
+
+abbrev pub replied : Request → State → Reply
+replied (frame bytes areBytes budget) s = frameCall bytes budget s
+replied (install program sheet) s = installCall program sheet s .reply
 
 abbrev pub replies : State → List Call → List (Answer × ℕ × ℕ)
 replies s [] = []
 replies s (c ∷ cs) =
-    let r = frameCall (c .frame) (c .budget) (called c s) in
+    let r = replied (c .request) (called c s) in
     (r .answer, r .steps, r .verdict) ∷ replies (next c s) cs
 
-pub answers : replies (loadCall filter used .state) calls
-    ≡ (Broke, 46, 1) ∷ (Refused 8, 0, 0) ∷ (Refused 7, 0, 0) ∷ (Refused 1, 0, 0) ∷ (Refused 2, 0, 0) ∷ (Spent, 0, 0) ∷ (Spent, 20, 0) ∷ (Broke, 35, 0) ∷ []
+pub answers : replies (start .reply .state) calls
+    ≡ (Broke, 46, 1) ∷ (Refused 8, 0, 0) ∷ (Refused 7, 0, 0) ∷ (Refused 1, 0, 0) ∷ (Refused 2, 0, 0)
+    ∷ (Refused 5, 0, 0) ∷ (Refused 9, 0, 0) ∷ (Refused 10, 0, 0) ∷ (Refused 11, 0, 0) ∷ (Refused 4, 0, 0) ∷ (Refused 5, 0, 0)
+    ∷ (Spent, 0, 0) ∷ (Spent, 20, 0) ∷ (Broke, 35, 0) ∷ []
 unfolding calls filling filter used filled given handedBack calling
 answers = refl
 
@@ -119,14 +153,14 @@ abbrev pub marksAfter : State → List Call → List (ℕ × ℕ)
 marksAfter s [] = []
 marksAfter s (c ∷ cs) = let t = next c s in (t .high .work, t .high .ret) ∷ marksAfter t cs
 
-pub marks-met : marksAfter (loadCall filter used .state) calls
-    ≡ (3, 2) ∷ (3, 2) ∷ (3, 2) ∷ (3, 2) ∷ (3, 2) ∷ (0, 0) ∷ (3, 2) ∷ (3, 2) ∷ []
+pub marks-met : marksAfter (start .reply .state) calls
+    ≡ (3, 2) ∷ (3, 2) ∷ (3, 2) ∷ (3, 2) ∷ (3, 2) ∷ (3, 2) ∷ (3, 2) ∷ (3, 2) ∷ (3, 2) ∷ (3, 2) ∷ (3, 2) ∷ (0, 0) ∷ (3, 2) ∷ (3, 2) ∷ []
 unfolding calls filling filter used filled given handedBack calling
 marks-met = refl
 
 -- the greatest depths of its sheet: no smaller bound holds
-pub greatest-met : (greatestDepth 1 (admitCall filter (zeros (sheetRecord * 34)) .sheet) ≡ 3) × (greatestDepth 2 (admitCall filter (zeros (sheetRecord * 34)) .sheet) ≡ 2)
-unfolding filter greatestOf calling
+pub greatest-met : (greatestDepth 1 (start .sheet) ≡ 3) × (greatestDepth 2 (start .sheet) ≡ 2)
+unfolding filter used greatestOf calling
 greatest-met = (refl, refl)
 
 -- ---- C-19: a filter with subroutines, which passes the frames whose first two data bytes are the same
@@ -145,23 +179,24 @@ unfolding caller
 caller-bytes = all-bytes caller tt
 
 pub sameBytes : Call
-sameBytes = call own own own own (frameRecord 2 (0x05 ∷ 0x05 ∷ [])) tt 100
+sameBytes = plain (judge (frameRecord 2 (0x05 ∷ 0x05 ∷ [])) tt 100)
 
 pub otherBytes : Call
-otherBytes = call own own own own (frameRecord 2 (0x05 ∷ 0x06 ∷ [])) tt 100
+otherBytes = plain (judge (frameRecord 2 (0x05 ∷ 0x06 ∷ [])) tt 100)
 
-caller-admits : admitCall caller (zeros (sheetRecord * 27)) .answer ≡ Admitted
-unfolding caller calling
-caller-admits = refl
+abbrev pub caller-start : InstallResult
+caller-start = installCall caller (zeros (sheetRecord * 27)) used
 
-caller-loads : loadCall caller used .answer ≡ Loaded
+caller-installs : caller-start .reply .answer ≡ Loaded
 unfolding caller used calling
-caller-loads = refl
+caller-installs = refl
 
-pub caller-instance : Safe caller (admitCall caller (zeros (sheetRecord * 27)) .sheet) (loadCall caller used .state) (sameBytes ∷ otherBytes ∷ [])
-caller-instance = demand3 .safe caller (zeros (sheetRecord * 27)) caller-bytes caller-admits used caller-loads (sameBytes ∷ otherBytes ∷ [])
+pub caller-instance : Safe caller (caller-start .sheet) (caller-start .reply .state) (sameBytes ∷ otherBytes ∷ [])
+unfolding sameBytes otherBytes
+caller-instance =
+    demand3 .safe caller (zeros (sheetRecord * 27)) caller-bytes used caller-installs (sameBytes ∷ otherBytes ∷ []) (tt, (tt, tt))
 
-pub caller-answers : replies (loadCall caller used .state) (sameBytes ∷ otherBytes ∷ []) ≡ (Broke, 20, 1) ∷ (Broke, 20, 0) ∷ []
+pub caller-answers : replies (caller-start .reply .state) (sameBytes ∷ otherBytes ∷ []) ≡ (Broke, 20, 1) ∷ (Broke, 20, 0) ∷ []
 unfolding sameBytes otherBytes filling caller used filled given handedBack calling
 caller-answers = refl
 
@@ -171,7 +206,7 @@ abbrev pub landings : List State → List ℕ
 landings [] = []
 landings (s ∷ states) = cond (eqb (fetched s) 0x6C) (step s .pc ∷ landings states) (landings states)
 
-pub caller-lands : landings (frameTrace (sameBytes .frame) (sameBytes .budget) (called sameBytes (loadCall caller used .state)))
+pub caller-lands : landings (traced (sameBytes .request) (called sameBytes (caller-start .reply .state)))
     ≡ (0x0118 ∷ 0x0105 ∷ 0x0118 ∷ 0x010D ∷ [])
 unfolding sameBytes filling caller used filled given handedBack frameTrace trace calling
 caller-lands = refl

@@ -1,52 +1,31 @@
--- The replies of the calls: a refusal, and what is done without one. Assumes nothing.
+-- What the calls that run a machine reply when they are not refused. Assumes nothing.
 use mathlib.Core.Path.{_≡_, refl, sym, ap, _∙_}
 use mathlib.Core.Bool.{Bool, true, false, cond}
-use mathlib.Core.List.{List, [], _++_, append-nil}
-use Prim.Native.Nat.{ℕ, zero, suc, _+_, _*_}
+use mathlib.Core.List.{List, [], _++_}
+use Prim.Native.Nat.{ℕ, _+_, _*_}
 use native.Mathlib.Omega.{arith}
 use lib.Dec.{eqb}
 use borrow.Author.Tests.{ne-eqb}
 use lib.ListN.{length, getD, set, take, drop}
-use Rattle.model.specs.Bytes.{zeros, number, readRing}
+use Rattle.model.specs.Bytes.{number, readRing}
 use Rattle.model.specs.Machine.{pageSize, start, State, state, Sized}
 use Rattle.model.specs.Instruction.{size}
 use Rattle.model.specs.Step.{step, breaks, stepPorts}
 use Rattle.model.specs.Run.{Reply, reply, withPorts, stepReply, run}
-use Rattle.model.specs.Run.Answer.{Refused, Loaded, WentOn, Broke, Spent, Ignored}
-use Rattle.model.specs.Calls.{refusal, bufferRows, unless, from, load, vector, framePlace, verdictPort, framed, withVerdict}
+use Rattle.model.specs.Run.Answer.{WentOn, Broke, Spent, Ignored}
+use Rattle.model.specs.Calls.{from, vector, framePlace, verdictPort, framed, withVerdict}
 use Rattle.model.specs.Replies.{portsIn, ofStep, ofRun, ofEvent, ofFrame}
 use Rattle.model.specs.declared.Machine.{Machine}
 use Rattle.model.specs.declared.Ports.{Ports}
 use Rattle.model.specs.declared.Watch.{Watch}
 use Rattle.model.proofs.Runs.{run-broke, run-on, run-through}
 use Rattle.model.proofs.Pauses.{brk-writes}
-use Rattle.model.proofs.Numbers.{buffers-right}
 use Rattle.cpu.proofs.Runs.{answers}
 use Rattle.cpu.specs.Ended.{ofEnd}
 use Rattle.cpu.specs.declared.End.{End}
 use Rattle.replies.specs.FromRun.{stepOf, runOf, eventOf, frameOf}
 
--- ---- a refusal, and none
-
-pub refused : {n : ℕ} (k : ℕ) (s : State) (done : Reply) → n ≡ k → (n ≡ 0 → ⊥) → reply (Refused n) 0 0 s ≡ unless k s done
-unfolding unless
-refused zero s done e h = absurd (h e)
-refused (suc k) s done e h = rw e
-
-pub taken : {n : ℕ} (k : ℕ) (s : State) {r : Reply} (done : Reply) → n ≡ k → n ≡ 0 → r ≡ done → r ≡ unless k s done
-unfolding unless
-taken zero s done e z h = h
-taken (suc k) s done e z h = absurd (omega arith)
-
--- the number that the code found is 0
-pub none : {n : ℕ} (k : ℕ) → n ≡ k → n ≡ 0 → k ≡ 0
-none k e z = sym e ∙ z
-
--- the buffers of a call that is not refused have their lengths
-pub sized : {n : ℕ} (s : State) → n ≡ refusal (bufferRows s) → n ≡ 0 → Sized s
-sized s e z = buffers-right s [] (rw (append-nil (bufferRows s)) (none (refusal (bufferRows s)) e z)) .0
-
--- whatever the machine record
+-- the lengths of the buffers, whatever the machine record
 pub resized : (a b c d : List ℕ) (m n : Machine) → Sized (state a b c d m) → Sized (state a b c d n)
 resized a b c d m n z = record { memory = z .memory; devices = z .devices; work = z .work; ret = z .ret }
 
@@ -95,14 +74,6 @@ stepped stateOf ports false s t (End.Paused m n) brk p h = let a = answers h in 
 pub step-is : (stateOf : Machine → State) (ports : Ports) (s : State) (e : End) → portsIn ports ≡ stepPorts s → ofEnd 1 stateOf e ≡ run Watch.Nothing 1 s
     → ofStep stateOf (stepOf ports e) ≡ stepReply s
 step-is stateOf ports s e p h = stepped stateOf ports (breaks s) s (step s) e (brk-writes s) p (h ∙ one-step s)
-
--- ---- load
-
-pub load-is : (program : List ℕ) (s : State) {m d w r : List ℕ} → Sized s → m ≡ load program .memory → d ≡ zeros (length (s .devices))
-    → w ≡ zeros (length (s .work .bytes)) → r ≡ zeros (length (s .ret .bytes))
-    → reply Loaded 0 0 (state m d w r (record { pc = start; wp = 0; rp = 0; «wp_high» = 0; «rp_high» = 0 })) ≡ reply Loaded 0 0 (load program)
-unfolding load
-load-is program s z hm hd hw hr = rw (hm, hd, hw, hr, z .devices, z .work, z .ret)
 
 -- ---- event
 

@@ -1,21 +1,17 @@
-// The public calls on a machine: load, step, run, event and frame. Each takes the machine record by value and four lent
+// The public calls that run a machine: step, run, event and frame. Each takes the machine record by value and four lent
 // buffers of any length, and refuses first.
-use buffers::clear;
 use buffers::clear_verdict;
 use buffers::frame_memory;
-use buffers::load_memory;
 use buffers::verdict;
 use cpu::ports;
 use model::EventReply;
 use model::FrameReply;
-use model::LoadReply;
 use model::Machine;
 use model::RunReply;
 use model::StepReply;
 use model::Watch;
 use refusals::event_refusal;
 use refusals::frame_refusal;
-use refusals::load_refusal;
 use refusals::wrong_length;
 use replies::event_of;
 use replies::frame_of;
@@ -24,44 +20,14 @@ use replies::step_of;
 use stack::input;
 ghost use mathlib.Core.Path.{_≡_};
 ghost use Rattle.model.specs.Machine.{state};
-ghost use Rattle.model.specs.Calls.{loadCall, stepCall, runCall, eventCall, frameCall};
-ghost use Rattle.model.specs.Replies.{ofLoad, ofStep, ofRun, ofEvent, ofFrame};
+ghost use Rattle.model.specs.Calls.{stepCall, runCall, eventCall, frameCall};
+ghost use Rattle.model.specs.Replies.{ofStep, ofRun, ofEvent, ofFrame};
 
-// A program stands at 0100 hexadecimal, and starts there.
+// A program starts at 0100 hexadecimal.
 const START: u16 = 0x0100;
 
 // Device d has the ports from 16 x d on.
 const DEVICE_PORTS: u16 = 16;
-
-// "memory is zero but for the program at 0100 hexadecimal; device page and stacks are zero; both pointers 0; counter 0100";
-// C-20: the high marks are 0
-pub fn load(
-    m: Machine,
-    memory: &mut [u8],
-    devices: &mut [u8],
-    work: &mut [u8],
-    ret: &mut [u8],
-    program: &[u8],
-) -> LoadReply
-    ensures { λ r. ⌜ ofLoad (state (now (memory .exit)) (now (devices .exit)) (now (work .exit)) (now (ret .exit))) r
-        ≡ loadCall (now (program .entry)) (state (now (memory .entry)) (now (devices .entry)) (now (work .entry)) (now (ret .entry)) m) ⌝ }
-{
-    let number = load_refusal(memory, devices, work, ret, program);
-    if number != 0 {
-        return LoadReply::Refused(number, m);
-    }
-    load_memory(memory, program);
-    clear(devices);
-    clear(work);
-    clear(ret);
-    LoadReply::Loaded(Machine {
-        pc: START,
-        wp: 0,
-        rp: 0,
-        wp_high: 0,
-        rp_high: 0,
-    })
-}
 
 // One instruction, as a run with budget 1: the loop of `cpu::run` stays the one place where an instruction is carried out. Which ports it
 // writes (C-18) is read before it.

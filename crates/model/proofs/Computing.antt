@@ -5,7 +5,7 @@ use Rattle.model.specs.Instruction.{opOf, wide, size, returnMode, keepMo
 use Rattle.model.specs.Step.{compared, computed, shifted, relative, address, effect, effectOn, words, mainAfter, otherAfter, written, applied, operated, execute, sentBy, portsOf, step}
 use Rattle.model.specs.Run.{run}
 use Rattle.model.specs.Admission.{byteAt, allowed, afterOf, targetOf, successors, markAt, found, isCall, isReturn, ruleTests, routineTests, returned, fits, fitsFrom, assigns, markOne, markEach, follow, sweep, sweeps, reached, admitted, sheetOf}
-use Rattle.model.specs.Calls.{refusal, bufferRows, unless, loadRows, load, loadCall, stepCall, runCall, eventRows, vector, eventCall, wellFormed, frameRows, framed, frameCall, admitRows, admitBy, admitCall}
+use Rattle.model.specs.Calls.{refusal, bufferRows, unless, loadRows, load, loadCall, stepCall, runCall, eventRows, vector, eventCall, wellFormed, frameRows, framed, frameCall, admitRows, admitBy, admitCall, installRows, installBy, installCall}
 use Rattle.model.specs.Writes.{writeUnless}
 use Rattle.model.specs.Moves.{wrongOld, wrongNew, staysNew, widened, narrowed, pieces, recordsOf, someRecord, eachRecord, wrongSheet, widenedSheet, narrowedSheet, widenRows, widenCall, narrowRows, narrowCall}
 use Rattle.model.specs.RecordMoves.{broken, tooLong, fitted, movedFile, fileRows, moveRows, moveCall}
@@ -27,7 +27,7 @@ admitting = tt
 
 -- the calls
 unfoldable pub calling : Unit {0}
-unfolding refusal bufferRows unless loadRows load loadCall stepCall runCall eventRows vector eventCall wellFormed frameRows framed frameCall admitRows admitBy admitCall run stepping admitting
+unfolding refusal bufferRows unless loadRows load loadCall stepCall runCall eventRows vector eventCall wellFormed frameRows framed frameCall admitRows admitBy admitCall installRows installBy installCall run stepping admitting
 calling = tt
 
 -- the moves of sheets and of files of frame records

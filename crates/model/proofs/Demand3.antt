@@ -11,20 +11,19 @@ use Rattle.model.specs.Bytes.{Bytes, Every}
 use Rattle.model.specs.Machine.{start, State}
 use Rattle.model.specs.Step.{execute, step, fetched, breaks}
 use Rattle.model.specs.Run.{run, trace}
-use Rattle.model.specs.Run.Answer.{Loaded}
 use Rattle.model.specs.declared.Watch.{Watch}
 use Rattle.model.specs.Admission.{admitMost, byteAt, Within, sheetRecord, recordByte, recordOf, markIn, Smallest}
 use Rattle.model.specs.Admission.Mark.{marked}
-use Rattle.model.specs.Calls.{frameSize, framed, frameTrace, load, loadCall, admitCall}
-use Rattle.model.specs.Demand3.{Call, filled, called, next, Intact, Sound, openAfter, Lands, EachLands, greatestOf, greatestDepth, HighInSheet, Safe, Demand3}
+use Rattle.model.specs.Calls.{frameSize, framed, load, installCall}
+use Rattle.model.specs.Demand3.{Call, filled, called, traced, next, Stands, InstallsRefused, Intact, Sound, openAfter, Lands, EachLands, greatestOf, greatestDepth, HighInSheet, Safe, Demand3}
 use Rattle.model.proofs.Bytes.{greater-both, greater-most}
 use Rattle.model.proofs.Changes.{length-is}
 use Rattle.model.proofs.Steps.{execute-high}
 use Rattle.model.proofs.Runs.{run-induction}
-use Rattle.model.proofs.Numbers.{loaded}
 use Rattle.model.proofs.Marked.{At, no-wrap, above, lands, goes-on, brk-stays}
 use Rattle.model.proofs.Exactness.{passes, smallest, exact}
-use Rattle.model.proofs.Lists.{next-by, Whole, filled-whole, framed-whole, next-whole, filled-above, framed-above, framed-starts, after-load}
+use Rattle.model.proofs.Installs.{installed, installed-exactly}
+use Rattle.model.proofs.Lists.{next-by, Whole, filled-whole, framed-whole, next-whole, filled-above, framed-above, framed-starts, after-install}
 
 -- ---- the greatest depth of a column is at least each of its bytes
 
@@ -45,9 +44,9 @@ framed-high : (sheet frame : List ℕ) (s : State) → HighInSheet sheet (framed
 unfolding framed
 framed-high sheet frame s = record { work = omega arith; ret = omega arith }
 
-loaded-high : (sheet filter : List ℕ) (s : State) → loadCall filter s .answer ≡ Loaded → HighInSheet sheet (loadCall filter s .state)
+loaded-high : (sheet filter : List ℕ) → HighInSheet sheet (load filter)
 unfolding load
-loaded-high sheet filter s t = rw (loaded filter s t .0) (record { work = omega arith; ret = omega arith })
+loaded-high sheet filter = record { work = omega arith; ret = omega arith }
 
 filled-high : (sheet : List ℕ) (c : Call) (s : State) → HighInSheet sheet s → HighInSheet sheet (filled c s)
 unfolding filled
@@ -143,26 +142,30 @@ module _ (filter sheet : List ℕ) (written : Smallest filter sheet) (most : len
         range = w .range;
       }
 
-  call-sound : (c : Call) (s : State) → Whole s → Intact filter s → HighInSheet sheet s
-      → Kept [] (frameTrace (c .frame) (c .budget) (called c s)) (next c s)
-  call-sound c s z i b =
+  call-sound : (c : Call) (s : State) → Stands (c .request) (called c s) → Whole s → Intact filter s → HighInSheet sheet s
+      → Kept [] (traced (c .request) (called c s)) (next c s)
+  call-sound c s t z i b =
       let y = filled-whole c s z in
       let j = same-above s (filled c s) (filled-above c s) i in
-      next-by (Kept []) c s (tt, tt, j, filled-high sheet c s b) (λ right l.
-      run-sound (c .budget) _ [] (starts (c .frame) (filled c s) l (c .frameBytes) y j) (framed-high sheet (c .frame) (filled c s)))
+      next-by (Kept []) c s t (tt, tt, j, filled-high sheet c s b) (λ bytes h budget right l.
+      run-sound budget _ [] (starts bytes (filled c s) l h y j) (framed-high sheet bytes (filled c s)))
 
-  list-safe : (s : State) → Whole s → Intact filter s → HighInSheet sheet s → (calls : List Call) → Safe filter sheet s calls
-  list-safe s z i b [] = (i, b)
-  list-safe s z i b (c ∷ cs) =
-      let r = call-sound c s z i b in
-      (i, b, r .0, r .1, list-safe (next c s) (next-whole c s z) (r .2) (r .3) cs)
+  list-safe : (s : State) → Whole s → Intact filter s → HighInSheet sheet s → (calls : List Call) → InstallsRefused s calls → Safe filter sheet s calls
+  list-safe s z i b [] t = (i, b)
+  list-safe s z i b (c ∷ cs) t =
+      let r = call-sound c s (t .0) z i b in
+      (i, b, r .0, r .1, list-safe (next c s) (next-whole c s (t .0) z) (r .2) (r .3) cs (t .1))
 
 pub demand3 : Demand3
 demand3 =
     record {
       exact = exact;
-      safe = λ filter sheet bytes t s l calls.
-          let ok = passes filter sheet t in
-          let a = after-load filter s bytes l in
-          list-safe filter (admitCall filter sheet .sheet) (smallest filter sheet ok) (ok .most) bytes (loadCall filter s .state) (a .0) (a .1) (loaded-high (admitCall filter sheet .sheet) filter s l) calls;
+      installed = installed-exactly;
+      safe = λ filter sheet bytes s t calls.
+          let i = installed filter sheet s t in
+          let ok = passes filter sheet (i .admits) in
+          let a = after-install filter sheet s bytes t in
+          let written : Smallest filter (installCall filter sheet s .sheet) = rw (i .written) (smallest filter sheet ok) in
+          let high : HighInSheet (installCall filter sheet s .sheet) (installCall filter sheet s .reply .state) = rw (i .loads) (loaded-high (installCall filter sheet s .sheet) filter) in
+          list-safe filter (installCall filter sheet s .sheet) written (ok .most) bytes (installCall filter sheet s .reply .state) (a .0) (a .1) high calls;
     }

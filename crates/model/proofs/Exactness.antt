@@ -8,7 +8,7 @@ use native.Mathlib.Omega.{arith}
 use lib.Dec.{T, eqb, not-T}
 use lib.ListN.{length, getD}
 use lib.Seq.{ext-getD}
-use borrow.Author.Tests.{eq-eqb, ne-eqb, ltb-false, lt-ltb, le-ltb}
+use borrow.Author.Tests.{eqb-false, eq-eqb, ne-eqb, ltb-false, lt-ltb, le-ltb}
 use Rattle.model.specs.Run.Answer.{Admitted}
 use Rattle.model.specs.Admission.{Mark, admitMost, byteAt, Within, Way, markAt, reached, admitted, sheetRecord, recordOf, sheetOf, recordAt, markIn, Smallest}
 use Rattle.model.specs.Admission.Mark.{unmarked, marked}
@@ -25,9 +25,10 @@ pub T-of : (b : Bool) → not b ≡ false → T b
 T-of true e = tt
 T-of false e = absurd (true≢false e)
 
--- ---- Admitted: at most 4,096 bytes, with an assignment, and the sheet is that of what is reached
+-- ---- Admitted: 1 to 4,096 bytes, with an assignment, and the sheet is that of what is reached
 
 pub record Passed (program sheet : List ℕ) : Type 0 where
+  pub some : length program ≡ 0 → ⊥
   pub most : length program ≤ admitMost
   pub fine : T (admitted program)
   pub written : admitCall program sheet .sheet ≡ sheetOf (reached program) program
@@ -45,7 +46,7 @@ passes program sheet t =
     let b = none-says 8 _ _ (a .1) in
     let c = none-says 9 _ _ (b .1) in
     let d = none-says 10 _ _ (c .1) in
-    record { most = ltb-false _ _ (b .0); fine = T-of (admitted program) (d .0); written = rw (e, admitBy) }
+    record { some = eqb-false _ _ (a .0); most = ltb-false _ _ (b .0); fine = T-of (admitted program) (d .0); written = rw (e, admitBy) }
 
 pub smallest : (program sheet : List ℕ) → Passed program sheet → Smallest program (admitCall program sheet .sheet)
 unfolding admitted

@@ -6,6 +6,7 @@ pub mod Demand3
 pub mod EveryByte
 pub mod Exactness
 pub mod Fitting
+pub mod Installs
 pub mod Keys
 pub mod Lists
 pub mod Marked

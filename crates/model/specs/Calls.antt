@@ -1,4 +1,4 @@
--- Document 01, "Calls" and "Numbered replies": the six calls, for lent buffers of any length.
+-- Document 01, "Calls" and "Numbered replies", and document 02's C-15: the seven calls, for lent buffers of any length.
 -- Assumes nothing.
 use mathlib.Core.Bool.{Bool, true, cond, not, _&&_, _||_}
 use mathlib.Core.List.{List, [], _∷_, _++_}
@@ -201,3 +201,22 @@ admitBy (suc n) program sheet =
 
 unfoldable pub admitCall : List ℕ → List ℕ → AdmitResult
 admitCall program sheet = admitBy (refusal (admitRows program sheet)) program sheet
+
+-- ---- install: C-15, "Load and admit become one"
+
+-- the reply of an install, and the sheet afterwards
+pub record InstallResult : Type 0 where
+  pub reply : Reply
+  pub sheet : List ℕ
+
+-- C-15: "Refusals: 1 to 4, 5 (empty only), 9, 10, 11": for the buffers of the machine, then as admission refuses
+unfoldable pub installRows : List ℕ → List ℕ → State → List Row
+installRows program sheet s = bufferRows s ++ admitRows program sheet
+
+-- C-15: "a filter goes in only if admitted, its sheet written by the same call. If not, the old one keeps running": "the four
+-- machine buffers stay; 11 zeroes the sheet lent"; so the machine is as load leaves it or as found, the sheet as admission leaves it
+unfoldable pub installBy : ℕ → List ℕ → List ℕ → State → InstallResult
+installBy n program sheet s = record { reply = unless n s (loadCall program s); sheet = admitBy n program sheet .sheet }
+
+unfoldable pub installCall : List ℕ → List ℕ → State → InstallResult
+installCall program sheet s = installBy (refusal (installRows program sheet s)) program sheet s

@@ -1,20 +1,21 @@
 -- Demand 3, in the user's words (quoted), with document 01's "What the inspector signs" (quoted, marked 01) and document 02's
--- C-19 and C-20.
+-- C-15, C-19 and C-20.
 -- Assumes nothing.
 use mathlib.Core.Path.{_≡_}
 use mathlib.Core.Bool.{false, cond}
+use mathlib.Core.Logic.{_↔_}
 use mathlib.Core.List.{List, [], _∷_, _++_}
 use Prim.Native.Nat.{ℕ, zero, suc, _+_, _/_, _≤_}
 use lib.Dec.{eqb}
 use lib.ListN.{length, take, drop}
 use Rattle.model.specs.Bytes.{Every, Bytes, greater}
-use Rattle.model.specs.Machine.{memorySize, pageSize, stackSize, start, State, state, registers}
+use Rattle.model.specs.Machine.{memorySize, pageSize, stackSize, start, State, state, registers, Sized}
 use Rattle.model.specs.Instruction.{shapeOf}
 use Rattle.model.specs.Step.{nextOf, fetched, step, wraps}
-use Rattle.model.specs.Run.Answer.{Loaded, Admitted}
-use Rattle.model.specs.Admission.{sheetRecord, Marked, recordByte}
-use Rattle.model.specs.Calls.{loadCall, frameCall, frameTrace, admitCall}
-use Rattle.model.specs.Exactness.{Exact}
+use Rattle.model.specs.Run.Answer.{Loaded}
+use Rattle.model.specs.Admission.{Assignable, sheetRecord, Marked, recordByte}
+use Rattle.model.specs.Calls.{frameCall, frameTrace, installCall}
+use Rattle.model.specs.Exactness.{Proper, Exact}
 
 -- ---- a call of the list
 
@@ -24,27 +25,36 @@ pub record Filling (n : ℕ) : Type 0 where
   pub size : length bytes ≡ n
   pub areBytes : Bytes bytes
 
--- the machine's own buffer of n bytes, or in its place another one, of wrong length
-pub data Lent (n : ℕ) : Type 0 where
-  own : Lent n
-  other : (bytes : List ℕ) → (length bytes ≡ n → ⊥) → Lent n
+-- what is called
+pub data Request : Type 0 where
+  -- "frame calls .. whatever their records and budgets": any bytes, as many as there may be, and any number
+  frame : (bytes : List ℕ) → Bytes bytes → (budget : ℕ) → Request
+  -- C-15: "calls of this kind among the frame calls": any program and any sheet
+  install : (program sheet : List ℕ) → Request
+
+-- what may be lent in place of the machine's own buffer of n bytes: to a frame call (01) "a buffer of wrong length", to an
+-- install any
+abbrev pub Other : Request → ℕ → List ℕ → Type 0
+Other (frame bytes areBytes budget) n instead = length instead ≡ n → ⊥
+Other (install program sheet) n instead = Unit {0}
+
+pub data Lent (r : Request) (n : ℕ) : Type 0 where
+  own : Lent r n
+  other : (instead : List ℕ) → Other r n instead → Lent r n
 
 pub record Call : Type 0 where
+  pub request : Request
   -- "whatever bytes are put into zero page, device page and stacks before each call": any, so those too that stand there;
   -- (01) "Zero page is 0000 to 00FF"
   pub zeroPage : Filling start
   pub devicePage : Filling pageSize
   pub workBytes : Filling stackSize
   pub retBytes : Filling stackSize
-  -- "refused ones too": (01) "a buffer of wrong length in place of one or more of the four"
-  pub memory : Lent memorySize
-  pub devices : Lent pageSize
-  pub work : Lent stackSize
-  pub ret : Lent stackSize
-  -- "whatever their records and budgets": any bytes, as many as there may be, and any number
-  pub frame : List ℕ
-  pub frameBytes : Bytes frame
-  pub budget : ℕ
+  -- "refused ones too": (01) "in place of one or more of the four"
+  pub memory : Lent request memorySize
+  pub devices : Lent request pageSize
+  pub work : Lent request stackSize
+  pub ret : Lent request stackSize
 
 -- the machine before the call, the bytes put in
 unfoldable pub filled : Call → State → State
@@ -57,13 +67,13 @@ filled c s =
     (registers s)
 
 -- a buffer that is lent, and the machine's own afterwards: as it was left, if it was lent
-abbrev pub lent : {n : ℕ} → Lent n → List ℕ → List ℕ
+abbrev pub lent : {r : Request} {n : ℕ} → Lent r n → List ℕ → List ℕ
 lent own mine = mine
-lent (other bytes wrong) mine = bytes
+lent (other instead may) mine = instead
 
-abbrev pub back : {n : ℕ} → Lent n → List ℕ → List ℕ → List ℕ
+abbrev pub back : {r : Request} {n : ℕ} → Lent r n → List ℕ → List ℕ → List ℕ
 back own mine afterwards = afterwards
-back (other bytes wrong) mine afterwards = mine
+back (other instead may) mine afterwards = mine
 
 -- what the call gets, the machine being s
 unfoldable pub given : Call → State → State
@@ -86,13 +96,33 @@ handedBack c s t =
     (back (c .ret) (s .ret .bytes) (t .ret .bytes))
     (registers t)
 
--- what the frame call gets: "otherwise each call gets what the one before it left"
+-- what the call gets: "otherwise each call gets what the one before it left"
 abbrev pub called : Call → State → State
 called c s = given c (filled c s)
 
--- the machine after the frame call
+-- what it leaves of what it gets
+abbrev pub left : Request → State → State
+left (frame bytes areBytes budget) s = frameCall bytes budget s .state
+left (install program sheet) s = installCall program sheet s .reply .state
+
+-- the states before each of its steps; an install takes none
+abbrev pub traced : Request → State → List State
+traced (frame bytes areBytes budget) s = frameTrace bytes budget s
+traced (install program sheet) s = []
+
+-- the machine after the call
 abbrev pub next : Call → State → State
-next c s = handedBack c (filled c s) (frameCall (c .frame) (c .budget) (called c s) .state)
+next c s = handedBack c (filled c s) (left (c .request) (called c s))
+
+-- C-15: "allows refused calls of this kind": an install stands in the list only if it is refused
+abbrev pub Stands : Request → State → Type 0
+Stands (frame bytes areBytes budget) s = Unit {0}
+Stands (install program sheet) s = installCall program sheet s .reply .answer ≡ Loaded → ⊥
+
+-- so with each one of these calls, the machine being s before the first
+abbrev pub InstallsRefused : State → List Call → Type 0
+InstallsRefused s [] = Unit {0}
+InstallsRefused s (c ∷ cs) = Stands (c .request) (called c s) × InstallsRefused (next c s) cs
 
 -- ---- what holds
 
@@ -151,17 +181,20 @@ Safe filter sheet s [] = Intact filter s × HighInSheet sheet s
 Safe filter sheet s (c ∷ cs) =
     Intact filter s
     × HighInSheet sheet s
-    × Every (Sound filter sheet) (frameTrace (c .frame) (c .budget) (called c s))
-    × EachLands [] (frameTrace (c .frame) (c .budget) (called c s))
+    × Every (Sound filter sheet) (traced (c .request) (called c s))
+    × EachLands [] (traced (c .request) (called c s))
     × Safe filter sheet (next c s) cs
 
 pub record Demand3 : Type 0 where
-  -- "A filter of 1 to 4,096 bytes, given a sheet of the right length, is admitted exactly when depths for its addresses exist
-  -- that obey the admission rules of document 01."
+  -- of admission: "A filter of 1 to 4,096 bytes, given a sheet of the right length, is admitted exactly when depths for its
+  -- addresses exist that obey the admission rules of document 01."
   pub exact : Exact
-  -- "Load an admitted filter. Then the following holds for every list of frame calls from there": for every filter, which is
-  -- bytes, whatever sheet the admission was lent and whatever machine the load was given, neither being refused; (01) "The
-  -- sheet is the one that admission wrote for this filter"
-  pub safe : (filter sheet : List ℕ) → Bytes filter → admitCall filter sheet .answer ≡ Admitted
-      → (s : State) → loadCall filter s .answer ≡ Loaded
-      → (calls : List Call) → Safe filter (admitCall filter sheet .sheet) (loadCall filter s .state) calls
+  -- C-15: "a filter goes in only if admitted", "given machine buffers of the right lengths too": then the same of its install
+  pub installed : (filter sheet : List ℕ) → Proper filter sheet → (s : State) → Sized s
+      → (installCall filter sheet s .reply .answer ≡ Loaded) ↔ Assignable filter
+  -- C-15: "Demand 3 starts here": "the following holds for every list of frame calls from there": for every filter, which is
+  -- bytes, whatever sheet and whatever machine the install was given, if it is not refused; it "speaks of the sheet as its load
+  -- wrote it and allows refused calls of this kind among the frame calls"
+  pub safe : (filter sheet : List ℕ) → Bytes filter → (s : State) → installCall filter sheet s .reply .answer ≡ Loaded
+      → (calls : List Call) → InstallsRefused (installCall filter sheet s .reply .state) calls
+      → Safe filter (installCall filter sheet s .sheet) (installCall filter sheet s .reply .state) calls

@@ -1,4 +1,5 @@
 -- `frames::read_and_run` meets its contract. Assumes nothing.
+use native.Mathlib.Omega.{arith}
 use borrow.Author.Needs.{needs}
 use Rattle.frames.proofs.read_and_run.Statement.{statement}
 use Rattle.frames.proofs.read_and_run.Tie as tie
@@ -8,6 +9,9 @@ array-share-prefix-bytes c = let w = rw (c .before .n .given .1) at (c .before .
 
 slice-aggregate-run : tie.Need-slice-aggregate-run
 slice-aggregate-run c = let w = rw (c .before .before .n .given .1) at (c .before .before .before .before .before .read-to-end .ensures) in w .1 .1
+
+run-requires : tie.Need-run-requires
+run-requires c κs = let w = rw (c .before .before .n .given .1) at (c .before .before .before .before .before .read-to-end .ensures) in omega (arith, w .1)
 
 pub read-and-run-spec : {M : Type 1} → statement M
 read-and-run-spec =
@@ -21,5 +25,5 @@ read-and-run-spec =
     (λ c. search needs)
     array-share-prefix-bytes
     slice-aggregate-run
-    (λ c κs. search needs)
+    run-requires
     (λ c. search needs))

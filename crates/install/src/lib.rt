@@ -1,0 +1,36 @@
+// C-15, "Load and admit become one": "a filter goes in only if admitted, its sheet written by the same call. If not, the old one
+// keeps running."
+use admission::admit;
+use buffers::put_program;
+use model::AdmitReply;
+use model::LoadReply;
+use model::Machine;
+use refusals::wrong_length;
+ghost use mathlib.Core.Path.{_≡_};
+ghost use Rattle.model.specs.Machine.{state};
+ghost use Rattle.model.specs.Calls.{installCall};
+ghost use Rattle.model.specs.Replies.{ofInstall};
+
+// "Refusals: 1 to 4, 5 (empty only), 9, 10, 11; the four machine buffers stay; 11 zeroes the sheet lent." The machine is touched
+// after the last of them.
+pub fn install(
+    m: Machine,
+    memory: &mut [u8],
+    devices: &mut [u8],
+    work: &mut [u8],
+    ret: &mut [u8],
+    program: &[u8],
+    sheet: &mut [u8],
+) -> LoadReply
+    ensures { λ r. ⌜ ofInstall (state (now (memory .exit)) (now (devices .exit)) (now (work .exit)) (now (ret .exit))) (now (sheet .exit)) r
+        ≡ installCall (now (program .entry)) (now (sheet .entry)) (state (now (memory .entry)) (now (devices .entry)) (now (work .entry)) (now (ret .entry)) m) ⌝ }
+{
+    let number = wrong_length(memory, devices, work, ret);
+    if number != 0 {
+        return LoadReply::Refused(number, m);
+    }
+    match admit(program, sheet) {
+        AdmitReply::Refused(number) => LoadReply::Refused(number, m),
+        AdmitReply::Admitted => LoadReply::Loaded(put_program(memory, devices, work, ret, program)),
+    }
+}
