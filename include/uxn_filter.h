@@ -9,16 +9,17 @@
  *   working stack    256 bytes
  *   return stack     256 bytes
  *
- * The four must not overlap each other, nor the program or record that is lent with them, and no pointer may be null. Any
+ * The four must not overlap each other, nor the program, sheet or record that is lent with them, and no pointer may be null. Any
  * length may be lent: another length than the one above is refused. A call keeps nothing: what stays between calls is the
  * record in the reply, which the next call is given, and the bytes of the four buffers.
  *
  * Every call ends: a run takes at most `budget` instructions. What each call replies and leaves in every lent byte is proved
  * for every input (crates/capi/src/lib.rt has the contracts, crates/model/specs the definitions that they cite).
  *
- * The library has eleven calls: five on a machine, the admission of a program, why a program is refused, two moves of stored
- * sheets, and two of files of frame records. At the end of this file stands a struct, uxn_host, that holds record and buffers of a
- * machine, with functions that make the calls on it. A host that does not use it pays nothing for it.
+ * These are eleven calls: five on a machine, the admission of a program, why a program is refused, two moves of stored sheets, and
+ * two of files of frame records. A filter goes in by uxn_install, which admits it first; the load of a program that need not be
+ * admitted is not for couplers, and stands in uxn_bench.h. At the end of this file stands a struct, uxn_host, that holds record and
+ * buffers of a machine, with functions that make the calls on it. A host that does not use it pays nothing for it.
  */
 #ifndef UXN_FILTER_H
 #define UXN_FILTER_H
@@ -32,15 +33,17 @@
    one form to the other. Since version 4 uxn_explain says why a program is refused. Since version 5 uxn_machine has two high marks:
    it has 6 bytes where it had 4, and uxn_reply 16 where it had 12. Since version 6 uxn_run and uxn_event take what is watched, with
    the answer UXN_PAUSED, and uxn_reply has 20 bytes: uxn_step says which ports the instruction wrote. Since version 7 a frame record
-   has 128 bytes, where it had 64, and uxn_widen_records and uxn_narrow_records move files of records from one form to the other. */
-#define UXN_FILTER_VERSION 7
+   has 128 bytes, where it had 64, and uxn_widen_records and uxn_narrow_records move files of records from one form to the other. Since
+   version 8 uxn_install admits a program and loads it, uxn_host_install stands in the place of uxn_host_load, and uxn_load is declared
+   in uxn_bench.h. */
+#define UXN_FILTER_VERSION 8
 
 #ifdef __cplusplus
 extern "C" {
 #endif
 
 /* Program counter, pointer of the working stack, pointer of the return stack, and a high mark for each stack: the greatest value that
-   its pointer had after any instruction since the last load or frame start, 0 there. After a frame the marks say how near to the end
+   its pointer had after any instruction since the last install or frame start, 0 there. After a frame the marks say how near to the end
    of its stacks, 255, the filter came. Of an admitted filter each is at most the greatest depth of that stack on the sheet. Of another
    one 255 may also be a stack that went round below 0. A call does not judge the marks that it is given. */
 typedef struct {
@@ -52,8 +55,9 @@ typedef struct {
 } uxn_machine;
 
 /* uxn_reply.answer */
-#define UXN_REFUSED 0 /* nothing was done: the reply has the record as given, every lent byte is as found, `number` says why */
-#define UXN_LOADED 1  /* uxn_load: the program is in memory, all else is zero, the counter is at 0x0100 */
+#define UXN_REFUSED 0 /* nothing was done: the reply has the record as given, every lent byte is as found, but for the sheet of an
+                         install that is refused with 11, which is all zero; `number` says why */
+#define UXN_LOADED 1  /* uxn_install: the program is in memory, all else is zero, the counter is at 0x0100, its sheet is written */
 #define UXN_WENT_ON 2 /* uxn_step: the instruction was not BRK */
 #define UXN_BROKE 3   /* the last instruction was BRK; the counter is just past it */
 #define UXN_SPENT 4   /* the budget is used up and the last instruction was not BRK */
@@ -70,14 +74,14 @@ typedef struct {
 #define UXN_DEVICE_PAGE_LENGTH 2    /* the device page is not 256 bytes */
 #define UXN_WORKING_STACK_LENGTH 3  /* the working stack is not 256 bytes */
 #define UXN_RETURN_STACK_LENGTH 4   /* the return stack is not 256 bytes */
-#define UXN_PROGRAM_LENGTH 5        /* the program is empty; uxn_load: or above 65,280 bytes */
+#define UXN_PROGRAM_LENGTH 5        /* the program is empty */
 #define UXN_DEVICE_NUMBER 6         /* uxn_event: the device is above 15 */
 #define UXN_RECORD_LENGTH 7         /* uxn_frame: the record is not 128 bytes */
 #define UXN_RECORD_FORM 8           /* uxn_frame, the moves of records: a record's length byte is above 126, that of an old
                                        record above 62, or a byte past the data is not 0 */
-#define UXN_ADMIT_LENGTH 9          /* uxn_admit, uxn_explain: the program is above 4,096 bytes */
-#define UXN_SHEET_LENGTH 10         /* uxn_admit: the sheet is not eight times the program's length */
-#define UXN_NO_ASSIGNMENT 11        /* uxn_admit, uxn_explain: no depths and routines obey the admission rules */
+#define UXN_ADMIT_LENGTH 9          /* uxn_install, uxn_admit, uxn_explain: the program is above 4,096 bytes */
+#define UXN_SHEET_LENGTH 10         /* uxn_install, uxn_admit: the sheet is not eight times the program's length */
+#define UXN_NO_ASSIGNMENT 11        /* uxn_install, uxn_admit, uxn_explain: no depths and routines obey the admission rules */
 #define UXN_OUTPUT_LENGTH 13        /* the moves of sheets and of records: the output is too short */
 #define UXN_RECORDS_LENGTH 15       /* uxn_widen_records, uxn_narrow_records: the file is not whole records */
 #define UXN_RECORD_TOO_LONG 16      /* uxn_narrow_records: a record's length byte is above 62, so that it can not go back */
@@ -86,7 +90,7 @@ typedef struct {
 
 typedef struct {
     uxn_machine machine; /* the record afterwards: give it to the next call */
-    uint32_t steps;      /* instructions carried out, BRK counted; 0 for a load, a refusal and an ignored event */
+    uint32_t steps;      /* instructions carried out, BRK counted; 0 for an install, a refusal and an ignored event */
     uint8_t number;      /* 0 unless refused */
     uint8_t answer;
     uint8_t verdict;     /* uxn_frame that broke: port 0xF2, where 0 drops the frame and any other number passes it; else 0 */
@@ -94,11 +98,13 @@ typedef struct {
     uint8_t ports[2];    /* which, in the order of writing; 0 where there is none. The bytes written stand in the device page */
 } uxn_reply;
 
-/* Memory becomes zero but for the program at 0x0100, device page and stacks zero, pointers and high marks 0, the counter 0x0100.
-   Refusals: 1 to 5. */
-uxn_reply uxn_load(uxn_machine machine, uint8_t *memory, size_t memory_length, uint8_t *device_page, size_t device_page_length,
-                   uint8_t *working, size_t working_length, uint8_t *ret, size_t ret_length, const uint8_t *program,
-                   size_t program_length);
+/* A filter goes in, if it is admitted: the sheet, of eight bytes for each program byte, is written as uxn_admit writes it, memory
+   becomes zero but for the program at 0x0100, device page and stacks zero, pointers and high marks 0, the counter 0x0100. Refused, it
+   leaves the record and the four buffers as found, so that the filter before it can go on; the sheet too, but for 11, which leaves it
+   all zero. Refusals: 1 to 4, 5, 9, 10, 11. */
+uxn_reply uxn_install(uxn_machine machine, uint8_t *memory, size_t memory_length, uint8_t *device_page, size_t device_page_length,
+                      uint8_t *working, size_t working_length, uint8_t *ret, size_t ret_length, const uint8_t *program,
+                      size_t program_length, uint8_t *sheet, size_t sheet_length);
 
 /* One instruction; the reply says which ports it wrote. A port counts as written if the byte is the one that stood there. Refusals: 1 to
    4. */
@@ -214,9 +220,9 @@ uxn_written uxn_narrow_records(const uint8_t *new_records, size_t new_length, ui
  *
  * These functions are C, compiled with the host, and not proved: they only pass on. The calls that they make are proved.
  *
- * Before its first load the struct may hold anything. It has 66,310 bytes, so mind a small stack. Its fields may be read and
- * written between calls, and a copy of it is a copy of the machine. The program and the record that are lent must not lie in it,
- * and no pointer may be null.
+ * Before its first install the struct may hold anything. It has 66,310 bytes, so mind a small stack. Its fields may be read and
+ * written between calls, and a copy of it is a copy of the machine. The program, the sheet and the record that are lent must not lie
+ * in it, and no pointer may be null.
  */
 #if defined(__cplusplus) || (defined(__STDC_VERSION__) && __STDC_VERSION__ >= 199901L)
 
@@ -239,9 +245,10 @@ static inline uxn_reply uxn_host_keep(uxn_host *host, uxn_reply reply)
     return reply;
 }
 
-static inline uxn_reply uxn_host_load(uxn_host *host, const uint8_t *program, size_t program_length)
+static inline uxn_reply uxn_host_install(uxn_host *host, const uint8_t *program, size_t program_length, uint8_t *sheet,
+                                         size_t sheet_length)
 {
-    return uxn_host_keep(host, uxn_load(UXN_HOST_GIVES(host), program, program_length));
+    return uxn_host_keep(host, uxn_install(UXN_HOST_GIVES(host), program, program_length, sheet, sheet_length));
 }
 
 static inline uxn_reply uxn_host_step(uxn_host *host)
