@@ -1,27 +1,22 @@
--- The result of an install: refused for a buffer, refused by admission, and installed. Assumes nothing.
+-- The number of an install and the sheet that it leaves; then what it replies. Assumes nothing.
 use mathlib.Core.Path.{_≡_, refl, sym, ap, _∙_}
 use mathlib.Core.Bool.{Bool, true, false}
-use mathlib.Core.List.{List, [], _∷_, _++_}
+use mathlib.Core.List.{List, _∷_, _++_}
 use Prim.Native.Nat.{ℕ, zero, suc, _≤_}
 use native.Mathlib.Omega.{arith}
 use borrow.Author.Tests.{ne-eqb}
-use lib.ListN.{length}
-use Rattle.model.specs.Machine.{State, Sized}
+use Rattle.model.specs.Machine.{State}
 use Rattle.model.specs.Run.{reply}
-use Rattle.model.specs.Run.Answer.{Refused, Loaded, Admitted}
-use Rattle.model.specs.Calls.{Row, refusal, bufferRows, numberOf, loadMost, load, loadCall, admitRows, admitBy, admitCall, AdmitResult, InstallResult, installRows, installBy, installCall}
+use Rattle.model.specs.Run.Answer.{Refused, Loaded}
+use Rattle.model.specs.Calls.{Row, refusal, bufferRows, numberOf, unless, load, loadCall, admitRows, admitBy, admitCall, AdmitResult, installRows, installBy, installCall}
 use Rattle.model.specs.Replies.{ofAdmit}
 use Rattle.model.specs.declared.AdmitReply.{AdmitReply}
+use Rattle.model.specs.declared.Machine.{Machine}
 use Rattle.model.proofs.Numbers as numbers
-use Rattle.model.proofs.Exactness.{passes}
-use Rattle.model.proofs.Installs.{install-is, installs}
-use Rattle.refusals.proofs.Refusals.{by-buffers}
+use Rattle.model.proofs.Installs.{admit-number, no-number}
+use Rattle.refusals.proofs.Refusals.{by-buffers, by-rows}
 
--- the result of an install that is refused
-abbrev pub result : ℕ → State → List ℕ → InstallResult
-result n s sheet = record { reply = reply (Refused n) 0 0 s; sheet = sheet }
-
--- ---- a buffer of wrong length
+-- ---- a buffer of wrong length: the sheet stays
 
 -- no number above m
 most : (m k : ℕ) (t : Bool) (rows : List Row) → k ≤ m → refusal rows ≤ m → refusal ((k, t) ∷ rows) ≤ m
@@ -34,47 +29,61 @@ unfolding bufferRows
 buffers-most s =
     most 4 1 _ _ (omega arith) (most 4 2 _ _ (omega arith) (most 4 3 _ _ (omega arith) (most 4 4 _ _ (omega arith) (omega (arith, numbers.no-rows)))))
 
--- then the sheet stays
 sheet-stays : (n : ℕ) (program sheet : List ℕ) → (n ≡ 0 → ⊥) → n ≤ 4 → sheet ≡ admitBy n program sheet .sheet
 unfolding admitBy
 sheet-stays zero program sheet h l = absurd (h refl)
 sheet-stays (suc n) program sheet h l = rw (ne-eqb (suc n) 11 (λ e. absurd (omega arith)))
 
-pub wrong-buffer : (program sheet : List ℕ) (s : State) (n : ℕ) → n ≡ refusal (bufferRows s) → (n ≡ 0 → ⊥) → result n s sheet ≡ installCall program sheet s
-unfolding installCall installRows installBy
-wrong-buffer program sheet s n e h =
-    let k = by-buffers s n e (admitRows program sheet) h in
-    let l : n ≤ 4 = rw e (buffers-most s) in
-    rw (← k, ← numbers.refused n s (loadCall program s) refl h, ← sheet-stays n program sheet h l)
+-- a record: the numbers do not hang on it
+pub some-record : Machine
+some-record = record { pc = 0; wp = 0; rp = 0; «wp_high» = 0; «rp_high» = 0 }
 
--- ---- admission refuses, or admits
+module _ (s : State) (n : ℕ) (e : n ≡ refusal (bufferRows s)) where
+  pub wrong-number : (program sheet : List ℕ) → (n ≡ 0 → ⊥) → n ≡ refusal (installRows program sheet s)
+  unfolding installRows
+  wrong-number program sheet h = by-buffers s n e (admitRows program sheet) h
 
-refused-by : (program sheet : List ℕ) (n k : ℕ) → admitBy n program sheet .answer ≡ Refused k → k ≡ 0 → ⊥
-unfolding admitBy
-refused-by program sheet zero k e z = let f : _≡_ {A = ℕ} 0 1 = cc in absurd (omega arith)
-refused-by program sheet (suc n) k e z = let f = ap numberOf e in absurd (omega arith)
+  pub wrong-sheet : (program sheet : List ℕ) → (n ≡ 0 → ⊥) → sheet ≡ admitBy n program sheet .sheet
+  wrong-sheet program sheet h = let l : n ≤ 4 = rw e (buffers-most s) in sheet-stays n program sheet h l
+
+-- ---- else the number and the sheet are those of admission
+
+abbrev pub numberIn : AdmitReply → ℕ
+numberIn (AdmitReply.Refused n) = n
+numberIn AdmitReply.Admitted = 0
+
+parts : (after : List ℕ) (a : AdmitReply) → (numberOf (ofAdmit after a .answer) ≡ numberIn a) × (ofAdmit after a .sheet ≡ after)
+parts after (AdmitReply.Refused n) = (refl, refl)
+parts after AdmitReply.Admitted = (refl, refl)
 
 module _ (program sheet : List ℕ) (a : AdmitReply) (after : List ℕ) (e : ofAdmit after a ≡ admitCall program sheet) where
-  pub not-admitted : (s : State) → Sized s → (n : ℕ) → a ≡ AdmitReply.Refused n → result n s after ≡ installCall program sheet s
+  number-of : {k : ℕ} → numberIn a ≡ k → refusal (admitRows program sheet) ≡ k
   unfolding admitCall
-  not-admitted s z n q =
-      let f : ofAdmit after (AdmitReply.Refused n) ≡ admitCall program sheet = rw q at e in
-      let h = refused-by program sheet (refusal (admitRows program sheet)) n (sym (ap (λ (r : AdmitResult). r .answer) f)) in
-      sym (install-is program sheet s z ∙ rw (← f, ← numbers.refused n s (loadCall program s) refl h))
+  number-of h =
+      sym (admit-number (refusal (admitRows program sheet)) program sheet)
+      ∙ sym (ap (λ (r : AdmitResult). numberOf (r .answer)) e)
+      ∙ parts after a .0
+      ∙ h
 
-  admits : a ≡ AdmitReply.Admitted → admitCall program sheet .answer ≡ Admitted
-  admits q =
-      let f : ofAdmit after AdmitReply.Admitted ≡ admitCall program sheet = rw q at e in
-      sym (ap (λ (r : AdmitResult). r .answer) f)
+  pub admit-sheet : {k : ℕ} → numberIn a ≡ k → after ≡ admitBy k program sheet .sheet
+  unfolding admitCall
+  admit-sheet h = rw (← number-of h) (sym (parts after a .1) ∙ ap (λ (r : AdmitResult). r .sheet) e)
 
-  pub room : a ≡ AdmitReply.Admitted → length program ≤ loadMost
-  room q = omega (arith, passes program sheet (admits q) .most)
+  pub install-number : (s : State) (n : ℕ) → n ≡ refusal (bufferRows s) → n ≡ 0 → {k : ℕ} → numberIn a ≡ k
+      → k ≡ refusal (installRows program sheet s)
+  unfolding installRows
+  install-number s n f z {k} h = by-rows s n f (admitRows program sheet) k z (number-of h)
 
-  pub goes-in : (s : State) → Sized s → a ≡ AdmitReply.Admitted → {t : State} → t ≡ load program
-      → record { reply = reply Loaded 0 0 t; sheet = after } ≡ installCall program sheet s
-  goes-in s z q {t} h =
-      let f : ofAdmit after AdmitReply.Admitted ≡ admitCall program sheet = rw q at e in
-      let i = installs program sheet s z (admits q) in
-      let g : after ≡ installCall program sheet s .sheet = ap (λ (r : AdmitResult). r .sheet) f ∙ sym (i .written) in
-      let k : reply Loaded 0 0 t ≡ installCall program sheet s .reply = rw (h, i .loads) in
-      rw (g, k)
+-- ---- the reply
+
+module _ (program sheet : List ℕ) (s : State) {n : ℕ} {after : List ℕ} (e : n ≡ refusal (installRows program sheet s)) (f : after ≡ admitBy n program sheet .sheet) where
+  pub not-in : (n ≡ 0 → ⊥) → record { reply = reply (Refused n) 0 0 s; sheet = after } ≡ installCall program sheet s
+  unfolding installCall installBy
+  not-in h = rw (← e, f, ← numbers.refused n s (loadCall program s) refl h)
+
+  pub goes-in : n ≡ 0 → {t : State} → t ≡ load program → record { reply = reply Loaded 0 0 t; sheet = after } ≡ installCall program sheet s
+  unfolding installCall installBy
+  goes-in z {t} h =
+      let i = no-number program sheet s (numbers.none _ e z) in
+      let g : reply Loaded 0 0 t ≡ installCall program sheet s .reply = rw (h, i .loads) in
+      rw (g, f, e)

@@ -8,11 +8,34 @@ use model::Machine;
 use refusals::wrong_length;
 ghost use mathlib.Core.Path.{_≡_};
 ghost use Rattle.model.specs.Machine.{state};
-ghost use Rattle.model.specs.Calls.{installCall};
+ghost use Rattle.model.specs.declared.Machine.{Machine};
+ghost use Rattle.model.specs.Calls.{refusal, admitBy, installRows, installCall};
 ghost use Rattle.model.specs.Replies.{ofInstall};
 
-// "Refusals: 1 to 4, 5 (empty only), 9, 10, 11; the four machine buffers stay; 11 zeroes the sheet lent." The machine is touched
-// after the last of them.
+// "Refusals: 1 to 4, 5 (empty only), 9, 10, 11 .. 11 zeroes the sheet lent": the number, or 0, with the sheet as admission leaves it. The
+// machine is only looked at.
+fn install_refusal(
+    memory: &[u8],
+    devices: &[u8],
+    work: &[u8],
+    ret: &[u8],
+    program: &[u8],
+    sheet: &mut [u8],
+) -> u8
+    ensures { λ r. ⌜ ((m : Machine) → r ≡ refusal (installRows (now (program .entry)) (now (sheet .entry)) (state (now (memory .entry)) (now (devices .entry)) (now (work .entry)) (now (ret .entry)) m))) ⌝ }
+    ensures { λ r. ⌜ now (sheet .exit) ≡ admitBy r (now (program .entry)) (now (sheet .entry)) .sheet ⌝ }
+{
+    let n = wrong_length(memory, devices, work, ret);
+    if n != 0 {
+        return n;
+    }
+    match admit(program, sheet) {
+        AdmitReply::Refused(number) => number,
+        AdmitReply::Admitted => 0,
+    }
+}
+
+// "the four machine buffers stay" where it is refused: they are written after the check.
 pub fn install(
     m: Machine,
     memory: &mut [u8],
@@ -25,12 +48,9 @@ pub fn install(
     ensures { λ r. ⌜ ofInstall (state (now (memory .exit)) (now (devices .exit)) (now (work .exit)) (now (ret .exit))) (now (sheet .exit)) r
         ≡ installCall (now (program .entry)) (now (sheet .entry)) (state (now (memory .entry)) (now (devices .entry)) (now (work .entry)) (now (ret .entry)) m) ⌝ }
 {
-    let number = wrong_length(memory, devices, work, ret);
+    let number = install_refusal(memory, devices, work, ret, program, sheet);
     if number != 0 {
         return LoadReply::Refused(number, m);
     }
-    match admit(program, sheet) {
-        AdmitReply::Refused(number) => LoadReply::Refused(number, m),
-        AdmitReply::Admitted => LoadReply::Loaded(put_program(memory, devices, work, ret, program)),
-    }
+    LoadReply::Loaded(put_program(memory, devices, work, ret, program))
 }

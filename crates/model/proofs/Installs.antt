@@ -3,7 +3,7 @@ use mathlib.Core.Path.{_≡_, refl, sym, ap, _∙_}
 use mathlib.Core.Bool.{false, _||_}
 use mathlib.Core.Logic.{_↔_}
 use mathlib.Core.List.{List}
-use Prim.Native.Nat.{ℕ, zero, suc}
+use Prim.Native.Nat.{ℕ, zero, suc, _≤_}
 use native.Mathlib.Omega.{arith}
 use lib.Dec.{ltb}
 use lib.ListN.{length}
@@ -21,7 +21,7 @@ use Rattle.model.proofs.Refusals.{AsFound}
 -- ---- on buffers of the right lengths: admission, and where that has no number the load
 
 -- the number of an admission is that of its rows
-admit-number : (n : ℕ) (program sheet : List ℕ) → numberOf (admitBy n program sheet .answer) ≡ n
+pub admit-number : (n : ℕ) (program sheet : List ℕ) → numberOf (admitBy n program sheet .answer) ≡ n
 unfolding admitBy
 admit-number zero program sheet = refl
 admit-number (suc n) program sheet = refl
@@ -42,6 +42,7 @@ has-room program ok = rw (ne-eqb (length program) 0 (ok .some), le-ltb loadMost 
 pub record Installed (program sheet : List ℕ) (s : State) : Type 0 where
   pub sized : Sized s
   pub admits : admitCall program sheet .answer ≡ Admitted
+  pub room : length program ≤ loadMost
   pub loads : installCall program sheet s .reply ≡ reply Loaded 0 0 (load program)
   pub written : installCall program sheet s .sheet ≡ admitCall program sheet .sheet
 
@@ -59,12 +60,13 @@ installs program sheet s z t =
     record {
       sized = z;
       admits = t;
+      room = omega (arith, passes program sheet t .most);
       loads = ap (λ (r : InstallResult). r .reply) e ∙ rw (t, unless) (loads-admitted program sheet s z t);
       written = ap (λ (r : InstallResult). r .sheet) e;
     }
 
 -- and both are needed
-no-number : (program sheet : List ℕ) (s : State) → refusal (installRows program sheet s) ≡ 0 → Installed program sheet s
+pub no-number : (program sheet : List ℕ) (s : State) → refusal (installRows program sheet s) ≡ 0 → Installed program sheet s
 unfolding installRows admitCall admitBy
 no-number program sheet s e =
     let b = buffers-right s (admitRows program sheet) e in
