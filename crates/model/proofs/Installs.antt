@@ -26,11 +26,15 @@ unfolding admitBy
 admit-number zero program sheet = refl
 admit-number (suc n) program sheet = refl
 
+-- and that of an install is the same
+install-number : (program sheet : List ℕ) (s : State) → Sized s → refusal (installRows program sheet s) ≡ refusal (admitRows program sheet)
+unfolding installRows
+install-number program sheet s z = buffers-passed s (admitRows program sheet) z
+
 pub install-is : (program sheet : List ℕ) (s : State) → Sized s
     → installCall program sheet s ≡ record { reply = unless (numberOf (admitCall program sheet .answer)) s (loadCall program s); sheet = admitCall program sheet .sheet }
-unfolding installCall installRows installBy admitCall
-install-is program sheet s z =
-    rw (buffers-passed s (admitRows program sheet) z, admit-number (refusal (admitRows program sheet)) program sheet)
+unfolding installCall installBy admitCall
+install-is program sheet s z = rw (install-number program sheet s z, admit-number (refusal (admitRows program sheet)) program sheet)
 
 -- ---- not refused
 
