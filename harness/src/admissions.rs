@@ -172,12 +172,13 @@ fn answer(program: &[u8]) -> u8 {
 }
 
 /// Bytes none of which is 0, others with each call.
-fn pattern(length: usize, call: u64) -> Vec<u8> {
+pub fn pattern(length: usize, call: u64) -> Vec<u8> {
     let bytes = (0..length as u64).map(|place| (37 * place + 11 * call) as u8 | 1);
     bytes.collect()
 }
 
-fn differences(name: &str, mine: &[u8], other: &[u8]) -> Vec<String> {
+/// Of a sheet, what the library has and another has not.
+pub(crate) fn differences(name: &str, mine: &[u8], other: &[u8]) -> Vec<String> {
     let pairs = mine.iter().zip(other).enumerate();
     let different = pairs.filter(|(_, (mine, other))| mine != other);
     let lines = different.take(SHOWN).map(|(at, (mine, other))| {

@@ -192,11 +192,15 @@ impl Default for Owned {
 /// Declares a C function that has the shape of the calls, and gives it a safe face in slices.
 #[macro_export]
 macro_rules! c_call {
-    ($name:ident = $symbol:literal $(, slice $slice:ident)? $(, number $number:ident: $type:ty)*) => {
+    (
+        $name:ident = $symbol:literal
+        $(, slice $slice:ident)? $(, mutable $mutable:ident)? $(, number $number:ident: $type:ty)*
+    ) => {
         pub fn $name(
             machine: $crate::calls::Machine,
             lent: $crate::calls::Buffers,
             $($slice: &[u8],)?
+            $($mutable: &mut [u8],)?
             $($number: $type,)*
         ) -> $crate::calls::Reply {
             extern "C" {
@@ -208,6 +212,7 @@ macro_rules! c_call {
                     working: *mut u8, working_length: usize,
                     ret: *mut u8, ret_length: usize,
                     $($slice: *const u8, length: usize,)?
+                    $($mutable: *mut u8, mutable_length: usize,)?
                     $($number: $type,)*
                 ) -> $crate::calls::Reply;
             }
@@ -220,6 +225,7 @@ macro_rules! c_call {
                     lent.working.as_mut_ptr(), lent.working.len(),
                     lent.ret.as_mut_ptr(), lent.ret.len(),
                     $($slice.as_ptr(), $slice.len(),)?
+                    $($mutable.as_mut_ptr(), $mutable.len(),)?
                     $($number,)*
                 )
             }

@@ -3,6 +3,7 @@
 use crate::c_call;
 use crate::calls::{Why, Written};
 
+c_call!(install = "uxn_install", slice program, mutable sheet);
 c_call!(load = "uxn_load", slice program);
 c_call!(step = "uxn_step");
 c_call!(run = "uxn_run", number budget: u32, number watch: u16);

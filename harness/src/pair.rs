@@ -1,9 +1,10 @@
 //! The proved library and the second machine side by side: every call is made on both, and the
 //! whole state afterwards is compared, each byte of the four buffers, the record and every reply
-//! field.
+//! field; of an install the sheet too.
 
 use std::io::Write;
 
+use crate::admissions::differences;
 use crate::calls::{self, Buffers, Machine, Reply, MEMORY, NO_PORTS, PAGE};
 use crate::library;
 use crate::random::Random;
@@ -167,6 +168,27 @@ impl Pair {
         self.compare(what, mine, other)
     }
 
+    pub fn install(&mut self, program: &[u8], sheet: &mut [u8]) -> Reply {
+        let before = self.machine;
+        let given = program.to_vec();
+        let mut lent = Guarded::new(sheet.len());
+        lent.bytes_mut().copy_from_slice(sheet);
+        let buffers = lend(&mut self.library);
+        let mine = library::install(before, buffers, &given, lent.bytes_mut());
+        let other = second::install(record_of(before), &mut self.second, program, sheet);
+        let length = sheet.len();
+        let what = || {
+            let count = program.len();
+            format!("install of {count} bytes with a sheet of {length}")
+        };
+        assert!(given == program, "{}: the program was written to", what());
+        let mut more = differences("second", lent.bytes(), sheet);
+        if !lent.guards_stand() {
+            more.push("  the library wrote outside the sheet".to_owned());
+        }
+        self.compare_with(what, mine, other, more)
+    }
+
     pub fn step(&mut self) -> Reply {
         let before = self.machine;
         let byte = self
@@ -232,10 +254,22 @@ impl Pair {
     }
 
     fn compare(&mut self, what: impl Fn() -> String, mine: Reply, other: second::Reply) -> Reply {
+        self.compare_with(what, mine, other, Vec::new())
+    }
+
+    /// `more` is what differs beside reply and buffers.
+    fn compare_with(
+        &mut self,
+        what: impl Fn() -> String,
+        mine: Reply,
+        other: second::Reply,
+        more: Vec<String>,
+    ) -> Reply {
         self.calls += 1;
         self.pauses += u64::from(mine.answer == calls::PAUSED);
         let expected = reply_of(&other);
         let same = mine == expected
+            && more.is_empty()
             && PARTS
                 .into_iter()
                 .all(|part| self.bytes(part) == self.second(part))
@@ -253,14 +287,14 @@ impl Pair {
                 self.seed,
                 self.calls,
                 what(),
-                self.differences(mine, expected)
+                self.differences(mine, expected, more)
             );
         }
         self.machine = mine.machine;
         mine
     }
 
-    fn differences(&self, mine: Reply, expected: Reply) -> String {
+    fn differences(&self, mine: Reply, expected: Reply, more: Vec<String>) -> String {
         let mut lines = Vec::new();
         if mine != expected {
             lines.push(format!(
@@ -279,6 +313,7 @@ impl Pair {
                 lines.push(format!("  {name}: the library wrote outside the buffer"));
             }
         }
+        lines.extend(more);
         lines.join("\n")
     }
 

@@ -1,6 +1,8 @@
-//! The second machine: step, run, load, event and frame written again from source document 000,
-//! document 01 and the requests of document 02 alone, in their order and words. It shares no code and
-//! no table with any other core; it is plain rather than fast.
+//! The second machine: step, run, load, install, event and frame written again from source document
+//! 000, document 01 and the requests of document 02 alone, in their order and words. It shares no code
+//! and no table with any other core; it is plain rather than fast. It admits by the second admission.
+
+use crate::second_admission::admit;
 
 // Machine parts
 
@@ -490,6 +492,18 @@ pub fn load(record: Record, parts: &mut Parts, program: &[u8]) -> Reply {
         steps: 0,
         verdict: 0,
         sent: Vec::new(),
+    }
+}
+
+/// Request C-15: "a filter goes in only if admitted, its sheet written by the same call". "Refusals: 1 to
+/// 4, 5 (empty only), 9, 10, 11; the four machine buffers stay; 11 zeroes the sheet lent."
+pub fn install(record: Record, parts: &mut Parts, program: &[u8], sheet: &mut [u8]) -> Reply {
+    if let Some(number) = wrong_buffer(parts) {
+        return refused(record, number);
+    }
+    match admit(program, sheet) {
+        0 => load(record, parts, program),
+        number => refused(record, number),
     }
 }
 
