@@ -14,7 +14,7 @@ use std::thread;
 use std::time::{Duration, Instant};
 
 use crate::assembler::assemble;
-use crate::calls::{ADMITTED, MEMORY, OLD_RECORD, PAGE, PROGRAM_LIMIT, RECORD, SHEET_RECORD};
+use crate::calls::{ADMITTED, ADMIT_LIMIT, MEMORY, OLD_RECORD, PAGE, RECORD, SHEET_RECORD};
 use crate::compiled::{printed, repository};
 use crate::moves::Due;
 use crate::random::Random;
@@ -264,7 +264,7 @@ pub fn lines_of(program: &Path, records: &Path) -> String {
     let mut code = Vec::new();
     // No more is read than tells whether it is refused.
     File::open(program)
-        .and_then(|file| file.take(PROGRAM_LIMIT as u64 + 1).read_to_end(&mut code))
+        .and_then(|file| file.take(ADMIT_LIMIT as u64 + 1).read_to_end(&mut code))
         .expect("the program is read");
     let length = fs::metadata(records).expect("the records").len();
     let said = said_at_end(&code, records, length as usize);
@@ -363,24 +363,26 @@ fn line(reply: &second::Reply) -> String {
     }
 }
 
-/// A fresh second machine with the program loaded, or refused.
-fn loaded(program: &[u8]) -> (second::Reply, Parts) {
+/// A fresh second machine with the program installed, or refused.
+fn installed(program: &[u8]) -> (second::Reply, Parts) {
     let mut parts = Parts {
         memory: vec![0; MEMORY],
         device_page: vec![0; PAGE],
         working: vec![0; PAGE],
         ret: vec![0; PAGE],
     };
-    (second::load(second::START, &mut parts, program), parts)
+    let mut sheet = vec![0; SHEET_RECORD * program.len()];
+    let reply = second::install(second::START, &mut parts, program, &mut sheet);
+    (reply, parts)
 }
 
 /// The lines of `frames`, from the second machine.
 pub fn expected_lines(program: &[u8], records: &[u8]) -> String {
-    let (loaded, mut parts) = loaded(program);
-    if loaded.answer != Answer::Loaded {
-        return line(&loaded);
+    let (reply, mut parts) = installed(program);
+    if reply.answer != Answer::Loaded {
+        return line(&reply);
     }
-    let mut state = loaded.record;
+    let mut state = reply.record;
     let mut lines = String::new();
     for frame in records.chunks_exact(RECORD) {
         let reply = second::frame(state, &mut parts, frame, BUDGET);
@@ -394,7 +396,7 @@ pub fn expected_lines(program: &[u8], records: &[u8]) -> String {
 /// is refused are not read.
 pub fn said_at_end(program: &[u8], records: &Path, length: usize) -> Vec<u8> {
     let rest = length % RECORD;
-    if rest == 0 || loaded(program).0.answer != Answer::Loaded {
+    if rest == 0 || installed(program).0.answer != Answer::Loaded {
         return Vec::new();
     }
     let counted = format!(": bytes at the end that are no whole record: {rest}\n");
