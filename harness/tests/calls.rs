@@ -1,10 +1,11 @@
-//! Load, event and frame calls that are not refused for a buffer.
+//! Load, event and frame calls that are not refused for a buffer; installs stand in `installs.rs`.
 
 use uxn_filter_harness::assembler::assemble;
 use uxn_filter_harness::calls::{
     Machine, Reply, BROKE, IGNORED, LOADED, MEMORY, NO_DEVICES, NO_PORTS, PAUSED, PROGRAM_LIMIT,
-    PROGRAM_START, RECORD, REFUSED, SPENT, WATCH_NONE,
+    PROGRAM_START, RECORD, REFUSED, SHEET_RECORD, SPENT, WATCH_NONE,
 };
+use uxn_filter_harness::opcodes::POP;
 use uxn_filter_harness::pair::{any_watch, Pair, Part};
 use uxn_filter_harness::programs::{either, grammar_made, random_bytes};
 use uxn_filter_harness::random::{seed, Random};
@@ -169,8 +170,11 @@ fn high_marks_from_call_to_call() {
     let program = assemble("LIT 01 LIT2 0203 STH2 BRK LITr 01 BRK");
     pair.load(&program);
     assert_eq!(marks(pair.run(10, WATCH_NONE)), (3, 2));
-    // A load and a frame begin anew, with no step too.
+    // A load, an install and a frame begin anew, with no step too.
     assert_eq!(marks(pair.load(&program)), (0, 0));
+    pair.run(10, WATCH_NONE);
+    let mut sheet = vec![0; SHEET_RECORD * program.len()];
+    assert_eq!(marks(pair.install(&program, &mut sheet)), (0, 0));
     pair.run(10, WATCH_NONE);
     assert_eq!(marks(pair.frame(&record, 0)), (0, 0));
     assert_eq!(marks(pair.frame(&record, 1)), (1, 0));
@@ -185,6 +189,9 @@ fn high_marks_from_call_to_call() {
     // So does a step after it, and a refusal of any call leaves them.
     for refusal in [
         pair.load(&[]),
+        pair.install(&[], &mut []),
+        pair.install(&program, &mut []),
+        pair.install(&[POP], &mut [0; SHEET_RECORD]),
         pair.event(16, 10, WATCH_NONE),
         pair.frame(&record[1..], 10),
         pair.frame(&[0xff; RECORD], 10),

@@ -1,10 +1,14 @@
 //! Refusals: every call with the buffers wrong in every combination, alone and together with each
-//! other wrong thing. The smallest number that applies is given and no lent byte changes; the guard
-//! bytes beside each buffer are compared with every call.
+//! other wrong thing. The smallest number that applies is given and no lent byte changes, but that an
+//! install refused with 11 zeroes the sheet; the guard bytes beside each buffer are compared with every
+//! call.
 
+use uxn_filter_harness::admissions::pattern;
 use uxn_filter_harness::calls::{
-    refused, Reply, MEMORY, NO_DEVICES, OLD_RECORD, PROGRAM_LIMIT, RECORD, WATCH_NONE,
+    refused, Reply, ADMIT_LIMIT, MEMORY, NO_DEVICES, OLD_RECORD, PROGRAM_LIMIT, RECORD,
+    SHEET_RECORD, WATCH_NONE,
 };
+use uxn_filter_harness::opcodes::{BRK, POP};
 use uxn_filter_harness::pair::{Pair, Part, RIGHT_LENGTHS};
 use uxn_filter_harness::random::{seed, Random};
 
@@ -76,6 +80,43 @@ fn loads() {
     ] {
         let program = vec![0x80; length];
         with_wrong_buffers("load", number, |pair| pair.load(&program));
+    }
+}
+
+/// C-15: "Refusals: 1 to 4, 5 (empty only), 9, 10, 11; the four machine buffers stay; 11 zeroes the sheet
+/// lent." Programs of every length, each as one that its first byte ends and as one that is not admitted,
+/// with sheets right and wrong.
+#[test]
+fn installs() {
+    for length in [0, 1, ADMIT_LIMIT, ADMIT_LIMIT + 1, PROGRAM_LIMIT + 1] {
+        let right = SHEET_RECORD * length;
+        let shorter = right.saturating_sub(1);
+        for first in [BRK, POP] {
+            let mut program = vec![BRK; length];
+            if let Some(byte) = program.first_mut() {
+                *byte = first;
+            }
+            for sheet in [right, 0, shorter, right + 1] {
+                let number = match length {
+                    0 => Some(5),
+                    1..=ADMIT_LIMIT if sheet != right => Some(10),
+                    1..=ADMIT_LIMIT if first == POP => Some(11),
+                    1..=ADMIT_LIMIT => None,
+                    _ => Some(9),
+                };
+                let found = pattern(sheet, 0);
+                with_wrong_buffers("install", number, |pair| {
+                    let mut lent = found.clone();
+                    let reply = pair.install(&program, &mut lent);
+                    let as_due = match reply.number {
+                        11 => lent.iter().all(|&byte| byte == 0),
+                        _ => lent == found,
+                    };
+                    assert!(as_due, "{} leaves another sheet", reply.number);
+                    reply
+                });
+            }
+        }
     }
 }
 
