@@ -1,32 +1,39 @@
-//! Demand 3, watched: a filter that the library has loaded gets a list of frame calls. Each call is
-//! made once as a whole and once step by step from the same state; before each step counter,
-//! pointers, stacks and the filter's bytes are held against the sheet. The subroutine calls that are
-//! open are kept: they say in which routine the counter is, and where each 6C has to land. After each
-//! call the high marks are held against the greatest depths of the sheet. No port is watched here: frame
-//! calls watch nothing.
+//! Demand 3, watched: a filter that the library has installed gets a list of frame calls, and installs
+//! that are refused among them. Each frame call is made once as a whole and once step by step from the
+//! same state; before each step counter, pointers, stacks and the filter's bytes are held against the
+//! sheet as the first install wrote it. The subroutine calls that are open are kept: they say in which
+//! routine the counter is, and where each 6C has to land. After each call the high marks are held against
+//! the greatest depths of the sheet. No port is watched here: frame calls watch nothing.
 
 use crate::admissions::shown;
 use crate::calls::{
-    refused, Buffers, Machine, Owned, Reply, ADMITTED, BROKE, LOADED, MEMORY, PAGE, PROGRAM_START,
-    RECORD, SHEET_RECORD, SPENT,
+    refused, Buffers, Machine, Owned, Reply, ADMITTED, ADMIT_LIMIT, BROKE, LOADED, MEMORY, PAGE,
+    PROGRAM_LIMIT, PROGRAM_START, RECORD, SHEET_RECORD, SPENT,
 };
+use crate::filters::{any, any_length};
 use crate::library;
 use crate::opcodes::{JMP2R, JSI};
+use crate::pair::RIGHT_LENGTHS;
+use crate::programs::random_bytes;
 use crate::random::Random;
-use crate::second_admission::{sizes, Sizes};
+use crate::second_admission::{admit, sizes, Sizes};
 
-const RIGHT: [usize; 4] = [MEMORY, PAGE, PAGE, PAGE];
 /// The frame record's place in memory, and the verdict's port.
 const RECORD_AT: usize = 0x80;
 const VERDICT: usize = 0xf2;
 const START: usize = PROGRAM_START as usize;
+/// What stands in machine and sheet before the first install.
+const FOUND: u8 = 0xa5;
 
 /// What does not hold, in words.
 pub type Watched<T> = Result<T, String>;
 
 pub struct Watch {
     program: Vec<u8>,
+    /// As the install wrote it: a value that no later call reaches.
     sheet: Vec<u8>,
+    /// The buffer that the install was lent for it; a later one may be lent it again.
+    pub sheet_lent: Vec<u8>,
     pub machine: Machine,
     pub own: Owned,
     /// The copy that is stepped.
@@ -39,6 +46,20 @@ pub struct Watch {
     pub deepest: usize,
     /// Calls after which the mark of a stack was its greatest depth, and that was not 0.
     pub at_greatest: [u64; 2],
+    /// Refused installs that were lent another buffer of the right length in place of the machine's.
+    pub others_lent: u64,
+}
+
+/// What is lent in place of each of the machine's own buffers, if anything is.
+pub type Instead = [Option<Vec<u8>>; 4];
+
+/// An install that is offered to a machine with a filter.
+#[derive(Clone)]
+pub struct Offer {
+    pub program: Vec<u8>,
+    /// None: the buffer that holds the sheet of that filter.
+    pub sheet: Option<Vec<u8>>,
+    pub instead: Instead,
 }
 
 /// A subroutine call that is open.
@@ -74,21 +95,49 @@ fn wraps(pointer: u8, taken: u32, keep: bool, pushed: u32) -> bool {
 }
 
 impl Watch {
-    /// The program loaded by the library, with the sheet that its admission wrote.
+    /// The program installed by the library, with the sheet that the install wrote.
     pub fn admitted(program: &[u8]) -> Watched<Watch> {
-        let mut sheet = vec![0xa5; SHEET_RECORD * program.len()];
-        let number = library::admit(program, &mut sheet);
-        hold(number == ADMITTED, || format!("not admitted: {number}"))?;
-        Watch::with_sheet(program, sheet)
+        let mut sheet = vec![FOUND; SHEET_RECORD * program.len()];
+        Watch::started(program, |machine, lent| {
+            let reply = library::install(machine, lent, program, &mut sheet);
+            (reply, sheet)
+        })
     }
 
-    /// The program loaded by the library, with any sheet.
+    /// The program loaded by the library, admitted or not, with any sheet: to see what the watch sees.
     pub fn with_sheet(program: &[u8], sheet: Vec<u8>) -> Watched<Watch> {
+        Watch::started(program, |machine, lent| {
+            (library::load(machine, lent, program), sheet)
+        })
+    }
+
+    /// The machine after `call`, which answers with the sheet.
+    fn started(
+        program: &[u8],
+        call: impl FnOnce(Machine, Buffers) -> (Reply, Vec<u8>),
+    ) -> Watched<Watch> {
         let mut own = Owned::new();
-        let reply = library::load(Machine::default(), own.lend(), program);
-        hold(reply.answer == LOADED, || "not loaded".to_owned())?;
+        let Buffers {
+            memory,
+            device_page,
+            working,
+            ret,
+        } = own.lend();
+        for buffer in [memory, device_page, working, ret] {
+            buffer.fill(FOUND);
+        }
+        let machine = Machine {
+            wp_high: FOUND,
+            rp_high: FOUND,
+            ..Machine::at(FOUND.into(), FOUND, FOUND)
+        };
+        let (reply, sheet) = call(machine, own.lend());
+        hold(reply.answer == LOADED, || {
+            format!("refused with {}", reply.number)
+        })?;
         Ok(Watch {
             program: program.to_vec(),
+            sheet_lent: sheet.clone(),
             sheet,
             machine: reply.machine,
             stepped: own.clone(),
@@ -97,6 +146,7 @@ impl Watch {
             returns: 0,
             deepest: 0,
             at_greatest: [0; 2],
+            others_lent: 0,
         })
     }
 
@@ -269,41 +319,152 @@ impl Watch {
         budget: u32,
     ) -> Watched<Reply> {
         let chosen = 1 + random.below(15);
-        let mut place = 0;
-        let mut wrong = RIGHT.map(|right| {
-            place += 1;
-            (chosen >> (place - 1) & 1 == 1).then(|| {
-                let lengths = [0, 1, right - 1, right + 1, PAGE + MEMORY - right];
-                let mut bytes = vec![0; random.choose(&lengths)];
-                random.fill(&mut bytes);
-                bytes
-            })
+        let mut instead = std::array::from_fn(|place| {
+            (chosen >> place & 1 == 1).then(|| of_wrong_length(random, RIGHT_LENGTHS[place]))
         });
         let number = 1 + chosen.trailing_zeros() as u8;
-        let wrong_before = wrong.clone();
+        self.refused_call(number, &mut instead, |machine, lent| {
+            library::frame(machine, lent, record, budget)
+        })
+    }
+
+    /// C-15: "allows refused calls of this kind among the frame calls": one install that is refused.
+    pub fn refused_install(&mut self, random: &mut Random) -> Watched<Reply> {
+        loop {
+            let offer = any_offer(random, self.program.len());
+            if let Some(reply) = self.install_by(library::install, offer)? {
+                return Ok(reply);
+            }
+        }
+    }
+
+    /// One install by `call`, which has to refuse it. An offer that is not to be refused has no place in
+    /// the list: it is not made, and there is no reply.
+    pub fn install_by(
+        &mut self,
+        call: impl Fn(Machine, Buffers, &[u8], &mut [u8]) -> Reply,
+        offer: Offer,
+    ) -> Watched<Option<Reply>> {
+        let Offer {
+            program,
+            sheet: other,
+            mut instead,
+        } = offer;
+        let mut sheet = other.clone().unwrap_or_else(|| self.sheet_lent.clone());
+        let mut expected = sheet.clone();
+        let number = match wrong_buffer(&instead) {
+            Some(number) => number,
+            None => admit(&program, &mut expected),
+        };
+        if number == ADMITTED {
+            return Ok(None);
+        }
+        let reply = self.refused_call(number, &mut instead, |machine, lent| {
+            call(machine, lent, &program, &mut sheet)
+        })?;
+        hold(sheet == expected, || {
+            format!("an install refused with {number} leaves another sheet")
+        })?;
+        if other.is_none() {
+            self.sheet_lent = sheet;
+        }
+        let lent = instead.iter().flatten();
+        self.others_lent += u64::from(wrong_buffer(&instead).is_none() && lent.count() > 0);
+        Ok(Some(reply))
+    }
+
+    /// A call that is refused with this number changes no byte that it is lent, nor the machine's own.
+    fn refused_call(
+        &mut self,
+        number: u8,
+        instead: &mut Instead,
+        call: impl FnOnce(Machine, Buffers) -> Reply,
+    ) -> Watched<Reply> {
+        let found = instead.clone();
         self.stepped.copy_from(&self.own);
         let before = self.machine;
 
-        let [memory, device_page, working, ret] = &mut wrong;
+        let [memory, device_page, working, ret] = &mut *instead;
         let own = self.own.lend();
-        let buffers = Buffers {
+        let lent = Buffers {
             memory: memory.as_deref_mut().unwrap_or(own.memory),
             device_page: device_page.as_deref_mut().unwrap_or(own.device_page),
             working: working.as_deref_mut().unwrap_or(own.working),
             ret: ret.as_deref_mut().unwrap_or(own.ret),
         };
-        let reply = library::frame(before, buffers, record, budget);
+        let reply = call(before, lent);
 
         let expected = refused(before, number);
         hold(reply == expected, || {
-            format!("wrong buffers answer {reply:x?}\n  in place of {expected:x?}")
+            format!("a call to be refused answers {reply:x?}\n  in place of {expected:x?}")
         })?;
-        hold(self.own == self.stepped && wrong == wrong_before, || {
-            "a call refused for a buffer changed a byte".to_owned()
+        hold(self.own == self.stepped && *instead == found, || {
+            "a refused call changed a byte".to_owned()
         })?;
         self.filter_stands(&self.own.memory, "after a refused call")?;
         self.marks_in_sheet()?;
         Ok(reply)
+    }
+}
+
+/// Numbers 1 to 4: the first buffer of wrong length.
+fn wrong_buffer(instead: &Instead) -> Option<u8> {
+    let mut numbered = (1..).zip(instead.iter().zip(RIGHT_LENGTHS));
+    let wrong = numbered.find(|(_, (lent, right))| {
+        let length = lent.as_ref().map(Vec::len);
+        length.is_some_and(|length| length != *right)
+    });
+    wrong.map(|(number, _)| number)
+}
+
+fn of_wrong_length(random: &mut Random, right: usize) -> Vec<u8> {
+    let length = random.choose(&[0, 1, right - 1, right + 1, PAGE + MEMORY - right]);
+    random_bytes(random, length, true)
+}
+
+/// Any install: programs of every kind and length, sheets of right and wrong length and that of the
+/// filter that runs, which has `running` bytes; own buffers, others, and others of wrong length.
+fn any_offer(random: &mut Random, running: usize) -> Offer {
+    let length = match random.below(8) {
+        0 => 0,
+        1 => random.choose(&[ADMIT_LIMIT + 1, PROGRAM_LIMIT, PROGRAM_LIMIT + 1, 70_000]),
+        2..=4 => running,
+        _ => any_length(random, ADMIT_LIMIT),
+    };
+    let turn = random.below(8);
+    let program = match length {
+        1..=ADMIT_LIMIT => any(random, turn, length),
+        _ => random_bytes(random, length, true),
+    };
+    let right = SHEET_RECORD * program.len();
+    let sheet = match random.below(6) {
+        0 | 1 => None,
+        2 => {
+            let lengths = [
+                0,
+                1,
+                right.saturating_sub(1),
+                right + 1,
+                right / 2,
+                2 * right,
+            ];
+            Some(random.choose(&lengths))
+        }
+        _ => Some(right),
+    };
+    let sheet = sheet.map(|length| random_bytes(random, length, true));
+    // In half of them all four are the machine's own.
+    let all_own = random.one_in(2);
+    let instead = RIGHT_LENGTHS.map(|right| match random.below(4) {
+        _ if all_own => None,
+        0 => Some(of_wrong_length(random, right)),
+        1 | 2 => Some(random_bytes(random, right, true)),
+        _ => None,
+    });
+    Offer {
+        program,
+        sheet,
+        instead,
     }
 }
 

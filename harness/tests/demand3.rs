@@ -1,18 +1,20 @@
-//! Demand 3 at run time: filters that the library admits, each with a list of frame calls whatever
-//! their records and budgets, with bytes put into zero page, device page and stacks before each,
-//! and with calls that are refused. Every call is made as one and again step by step. Most filters
-//! have subroutines: each of their returns has to land just after its call. No high mark passes the
-//! greatest depth of its stack.
+//! Demand 3 at run time: filters that the library installs, each with a list of frame calls whatever
+//! their records and budgets, with bytes put into zero page, device page and stacks before each, and
+//! with calls that are refused, installs among them. Every frame call is made as one and again step by
+//! step. Most filters have subroutines: each of their returns has to land just after its call. No high
+//! mark passes the greatest depth of its stack.
 
 use uxn_filter_harness::assembler::assemble;
 use uxn_filter_harness::calls::{
-    Reply, ADMIT_LIMIT, BROKE, PROGRAM_START, RECORD, REFUSED, SHEET_RECORD, SPENT,
+    Buffers, Reply, ADMIT_LIMIT, BROKE, LOADED, PROGRAM_LIMIT, PROGRAM_START, RECORD, REFUSED,
+    SHEET_RECORD, SPENT,
 };
 use uxn_filter_harness::filters::{any_length, changed, filter};
-use uxn_filter_harness::opcodes::{BRK, LIT, RETURN, SHORT, STZ};
-use uxn_filter_harness::pair::say;
+use uxn_filter_harness::library;
+use uxn_filter_harness::opcodes::{BRK, LIT, POP, RETURN, SHORT, STZ};
+use uxn_filter_harness::pair::{say, RIGHT_LENGTHS};
 use uxn_filter_harness::random::{seed, Random};
-use uxn_filter_harness::watch::{any_record, Watch, Watched};
+use uxn_filter_harness::watch::{any_record, Instead, Offer, Watch, Watched};
 
 const FILTERS: usize = 1_500;
 const CALLS: usize = 40;
@@ -25,10 +27,14 @@ struct Answers {
     spent: u64,
     passed: u64,
     refused: [u64; 9],
+    /// Frames that broke after the buffer of the filter's sheet had been zeroed.
+    without_sheet: u64,
+    /// Refused installs, by their number.
+    installs: [u64; 12],
 }
 
 impl Answers {
-    fn count(&mut self, reply: Reply) {
+    fn count_frame(&mut self, reply: Reply) {
         match reply.answer {
             BROKE => self.broke += 1,
             SPENT => self.spent += 1,
@@ -39,10 +45,15 @@ impl Answers {
     }
 }
 
-/// A list of frame calls from a load on.
-fn frames(watch: &mut Watch, random: &mut Random, answers: &mut Answers) -> Watched<()> {
+/// A list of frame calls and refused installs, from the install of the filter on.
+fn calls(watch: &mut Watch, random: &mut Random, answers: &mut Answers) -> Watched<()> {
     for _ in 0..CALLS {
         watch.put_bytes(random);
+        if random.one_in(10) {
+            let reply = watch.refused_install(random)?;
+            answers.installs[usize::from(reply.number)] += 1;
+            continue;
+        }
         let record = any_record(random);
         let budget = random.choose(&BUDGETS);
         let reply = if random.one_in(8) {
@@ -50,7 +61,9 @@ fn frames(watch: &mut Watch, random: &mut Random, answers: &mut Answers) -> Watc
         } else {
             watch.frame(&record, budget)?
         };
-        answers.count(reply);
+        answers.count_frame(reply);
+        let zeroed = watch.sheet_lent.iter().all(|&byte| byte == 0);
+        answers.without_sheet += u64::from(reply.answer == BROKE && zeroed);
     }
     Ok(())
 }
@@ -80,9 +93,10 @@ fn admitted_filters_keep_to_their_sheets() {
     let mut returning = 0;
     let mut deepest = 0;
     let mut at_greatest = [0; 2];
+    let mut others_lent = 0;
     for turn in 0..FILTERS {
         let mut watch = next_filter(&mut random, turn);
-        let watched = frames(&mut watch, &mut random, &mut answers);
+        let watched = calls(&mut watch, &mut random, &mut answers);
         if let Err(what) = watched {
             let shown = watch.shown();
             panic!("seed {}, filter {turn}:\n  {shown}\n  {what}", seed());
@@ -94,12 +108,15 @@ fn admitted_filters_keep_to_their_sheets() {
         for (total, more) in at_greatest.iter_mut().zip(watch.at_greatest) {
             *total += more;
         }
+        others_lent += watch.others_lent;
     }
     let Answers {
         broke,
         spent,
         passed,
         refused,
+        without_sheet,
+        installs,
     } = answers;
     say(&format!(
         "demand 3: seed {}, {FILTERS} filters, {} calls, {steps} steps watched; {broke} broke ({passed} passed), \
@@ -111,12 +128,21 @@ fn admitted_filters_keep_to_their_sheets() {
         "demand 3: {returns} returns seen, in {returning} filters; at most {deepest} calls open; high marks at the \
          greatest depth after {at_greatest:?} calls"
     ));
+    say(&format!(
+        "demand 3: installs refused {installs:?}, {others_lent} of them with other buffers of the right length; \
+         {without_sheet} frames broke when the buffer of their sheet was zeroed"
+    ));
     // Every kind of call stands in the lists.
     assert!(broke > 1_000 && spent > 1_000 && passed > 100);
     let every = [1, 2, 3, 4, 7, 8]
         .iter()
         .all(|&number| refused[number] > 20);
     assert!(every, "refused {refused:?}");
+    let every = [1, 2, 3, 4, 5, 9, 10, 11]
+        .iter()
+        .all(|&number| installs[number] > 100);
+    assert!(every, "installs refused {installs:?}");
+    assert!(others_lent > 100 && without_sheet > 300);
     assert!(returns > 10_000 && returning > FILTERS / 6 && deepest > 2);
     assert!(at_greatest.iter().all(|&calls| calls > 1_000));
 }
@@ -165,7 +191,170 @@ fn stores_stay_in_the_zero_page() {
     }
 }
 
+const OWN: Instead = [None, None, None, None];
+
+/// Buffers of the right lengths that are not the machine's own.
+fn others() -> Instead {
+    RIGHT_LENGTHS.map(|length| Some(vec![0xa5; length]))
+}
+
+/// To a machine with a filter of `running` bytes: installs that are refused, with the number that each
+/// earns, into a sheet of their own and into the buffer of that filter's sheet. No buffer is empty.
+fn refused_offers(running: usize) -> Vec<(u8, Offer)> {
+    let mut offers = Vec::new();
+    let mut offer = |number, program: Vec<u8>, instead: &Instead| {
+        let right = SHEET_RECORD * program.len().max(1);
+        let mut sheets = vec![Some(vec![0xa5; right + usize::from(number == 10)])];
+        // For a program of another length that buffer earns 10.
+        if number != 11 || program.len() == running {
+            sheets.push(None);
+        }
+        for sheet in sheets {
+            let offer = Offer {
+                program: program.clone(),
+                sheet,
+                instead: instead.clone(),
+            };
+            offers.push((number, offer));
+        }
+    };
+    for (place, right) in RIGHT_LENGTHS.into_iter().enumerate() {
+        for wrong in [1, right - 1, right + 1] {
+            let mut instead = OWN;
+            instead[place] = Some(vec![0xa5; wrong]);
+            offer(1 + place as u8, vec![BRK; running], &instead);
+        }
+    }
+    for instead in [OWN, others()] {
+        offer(5, vec![], &instead);
+        for length in [ADMIT_LIMIT + 1, PROGRAM_LIMIT, PROGRAM_LIMIT + 1] {
+            offer(9, vec![BRK; length], &instead);
+        }
+        offer(10, vec![BRK; running + 1], &instead);
+        offer(11, vec![POP; running], &instead);
+        offer(11, vec![POP; running + 1], &instead);
+    }
+    offers
+}
+
+/// The shortest of them.
+fn empty_program() -> Offer {
+    Offer {
+        program: vec![],
+        sheet: None,
+        instead: OWN,
+    }
+}
+
+/// Every refused install leaves the machine; 11 alone takes the sheet of the filter that runs, if it is
+/// lent that buffer. Demand 3 goes on to hold of the sheet as the first install wrote it.
+#[test]
+fn refused_installs_between_frames() {
+    let program = assemble(CALL);
+    let mut seen = [0; 12];
+    for (number, offer) in refused_offers(program.len()) {
+        let mut watch = Watch::admitted(&program).expect("a call and its return");
+        let written = watch.sheet_lent.clone();
+        let mut random = Random::new(seed());
+        let lends_it = offer.sheet.is_none();
+        for turn in 0..4 {
+            watch.put_bytes(&mut random);
+            let frame = watch.frame(&[0; RECORD], turn).expect("a frame");
+            assert_ne!(frame.answer, REFUSED);
+            watch.put_bytes(&mut random);
+            let reply = watch.install_by(library::install, offer.clone());
+            let reply = reply.expect("a refusal").expect("a call that is made");
+            assert_eq!((reply.number, reply.machine), (number, frame.machine));
+            let left = match number {
+                11 if lends_it => vec![0; written.len()],
+                _ => written.clone(),
+            };
+            assert_eq!(watch.sheet_lent, left, "after {number}");
+        }
+        assert_eq!(watch.returns, 2);
+        seen[usize::from(number)] += 1;
+    }
+    assert_eq!(seen, [0, 6, 6, 6, 6, 4, 0, 0, 0, 12, 4, 6]);
+}
+
 // The watch itself: what does not hold is seen.
+
+/// Installs that are wrong in one thing, whatever they are refused for.
+#[test]
+fn the_watch_sees_a_wrong_install() {
+    type Change = fn(&mut Reply, &mut Buffers, &mut [u8]);
+    let changes: [(&str, Change); 14] = [
+        ("number", |reply, _, _| reply.number += 1),
+        ("answer", |reply, _, _| reply.answer = LOADED),
+        ("steps", |reply, _, _| reply.steps = 1),
+        ("counter", |reply, _, _| reply.machine.pc ^= 1),
+        ("working pointer", |reply, _, _| reply.machine.wp ^= 1),
+        ("return pointer", |reply, _, _| reply.machine.rp ^= 1),
+        ("working mark", |reply, _, _| reply.machine.wp_high ^= 1),
+        ("return mark", |reply, _, _| reply.machine.rp_high ^= 1),
+        ("memory", |_, lent, _| lent.memory[0] ^= 1),
+        ("device page", |_, lent, _| lent.device_page[0] ^= 1),
+        ("working stack", |_, lent, _| lent.working[0] ^= 1),
+        ("return stack", |_, lent, _| lent.ret[0] ^= 1),
+        ("sheet", |_, _, sheet| sheet[0] ^= 1),
+        ("sheet, last", |_, _, sheet| *sheet.last_mut().unwrap() ^= 1),
+    ];
+    let program = assemble(CALL);
+    for (number, offer) in refused_offers(program.len()) {
+        for (name, change) in changes {
+            let mut watch = Watch::admitted(&program).expect("a call and its return");
+            let wrong = |machine, mut lent: Buffers, program: &[u8], sheet: &mut [u8]| {
+                let mut reply = library::install(machine, again(&mut lent), program, sheet);
+                change(&mut reply, &mut lent, sheet);
+                reply
+            };
+            let watched = watch.install_by(wrong, offer.clone());
+            watched.expect_err(&format!("another {name} with {number}"));
+        }
+    }
+    // What is not admitted goes in by the plain load.
+    let mut watch = Watch::admitted(&program).expect("a call and its return");
+    let offer = Offer {
+        program: vec![POP; program.len()],
+        sheet: None,
+        instead: OWN,
+    };
+    let wrong = |machine, lent: Buffers, program: &[u8], sheet: &mut [u8]| {
+        sheet.fill(0);
+        library::load(machine, lent, program)
+    };
+    watch.install_by(wrong, offer).expect_err("a load");
+}
+
+/// The same buffers, lent for one more call.
+fn again<'a>(lent: &'a mut Buffers) -> Buffers<'a> {
+    Buffers {
+        memory: lent.memory,
+        device_page: lent.device_page,
+        working: lent.working,
+        ret: lent.ret,
+    }
+}
+
+/// What is admitted, with buffers and a sheet of the right lengths, has no place in the list.
+#[test]
+fn the_watch_makes_no_install_that_would_go_in() {
+    let program = assemble(CALL);
+    for instead in [OWN, others()] {
+        for sheet in [None, Some(vec![0xa5; SHEET_RECORD * program.len()])] {
+            let mut watch = Watch::admitted(&program).expect("a call and its return");
+            let offer = Offer {
+                program: vec![BRK; program.len()],
+                sheet,
+                instead: instead.clone(),
+            };
+            let watched = watch.install_by(|_, _, _, _| panic!("an install is made"), offer);
+            assert_eq!(watched, Ok(None));
+            watch.frame(&[0; RECORD], 10).expect("the same filter");
+            assert_eq!(watch.returns, 1);
+        }
+    }
+}
 
 /// The bytes of a sheet's record, as they are marked in a routine.
 fn marked_in(routine: u16, working: u8, ret: u8, byte: u8) -> [u8; SHEET_RECORD] {
@@ -256,7 +445,7 @@ fn the_watch_sees_other_depths() {
 }
 
 /// Spent just after a push: the address that the counter is at is not marked, and no step is taken
-/// there. The next call, which is refused, leaves the mark.
+/// there. The next calls, which are refused, leave the mark.
 #[test]
 fn the_watch_sees_a_high_mark_above_the_sheet() {
     for (literal, stack) in [(LIT, 0), (LIT | RETURN, 1)] {
@@ -269,6 +458,9 @@ fn the_watch_sees_a_high_mark_above_the_sheet() {
             let what = what.expect_err("a mark above the sheet");
             assert!(what.contains("a high mark is 1"), "{what}");
         }
+        let what = watch.install_by(library::install, empty_program());
+        let what = what.expect_err("a mark above the sheet");
+        assert!(what.contains("a high mark is 1"), "{what}");
         let mut watch = Watch::admitted(&program).expect("a filter");
         watch.frame(&[0; RECORD], 1).expect("the same, admitted");
         assert_eq!(watch.at_greatest[stack], 1);
@@ -375,6 +567,10 @@ fn the_watch_sees_a_filter_that_is_written_to() {
     let mut watch = Watch::with_sheet(&sta, sheet).expect("a program that loads");
     let what = watch.frame(&[0; RECORD], 3).expect_err("a byte written");
     assert!(what.contains("after the call"), "{what}");
+    // And after a refused install.
+    let what = watch.install_by(library::install, empty_program());
+    let what = what.expect_err("a byte written");
+    assert!(what.contains("after a refused call"), "{what}");
 }
 
 #[test]
