@@ -1,7 +1,7 @@
 //! A soak: rounds of every kind of call, each with a seed of its own. SOAK gives its minutes;
 //! without it the soak is a few seconds long.
 
-use uxn_filter_harness::admissions::Admissions;
+use uxn_filter_harness::admissions::{pattern, Admissions};
 use uxn_filter_harness::calls::{ADMIT_LIMIT, PROGRAM_LIMIT, RECORD, SHEET_RECORD};
 use uxn_filter_harness::filters::{any, any_length, filter};
 use uxn_filter_harness::pair::{any_watch, Pair, Part};
@@ -10,15 +10,20 @@ use uxn_filter_harness::random::Random;
 use uxn_filter_harness::soak::rounds;
 use uxn_filter_harness::watch::{any_record, Watch, Watched};
 
-/// How many steps and admissions were compared, runs and events paused, and steps watched, with the
-/// returns among them.
+/// Installs of a round.
+const INSTALLS: usize = 8;
+
+/// How many steps, installs and admissions were compared, runs and events paused, and steps watched,
+/// with the returns among them and the refused installs between them.
 #[derive(Default)]
 struct Total {
     steps: u64,
     pauses: u64,
+    installs: u64,
     admissions: u64,
     watched: u64,
     returns: u64,
+    refused_installs: u64,
 }
 
 impl Total {
@@ -26,13 +31,16 @@ impl Total {
         let Total {
             steps,
             pauses,
+            installs,
             admissions,
             watched,
             returns,
+            refused_installs,
         } = self;
         format!(
-            "{steps} compared steps, {pauses} pauses, {admissions} compared admissions, {watched} watched \
-             steps with {returns} returns"
+            "{steps} compared steps, {pauses} pauses, {installs} compared installs, {admissions} compared \
+             admissions, {watched} watched steps with {returns} returns and {refused_installs} refused installs \
+             between them"
         )
     }
 }
@@ -43,10 +51,12 @@ fn soak() {
         let pair = machine_round(seed);
         total.steps += pair.compared_steps;
         total.pauses += pair.pauses;
+        total.installs += install_round(seed);
         total.admissions += admission_round(seed);
-        let watch = watched_round(seed);
+        let (watch, refused_installs) = watched_round(seed);
         total.watched += watch.steps;
         total.returns += watch.returns;
+        total.refused_installs += refused_installs;
     };
     rounds("soak", round, Total::text);
 }
@@ -104,6 +114,24 @@ fn machine_round(seed: u64) -> Pair {
     pair
 }
 
+/// Programs of every kind into one machine, one after the other, most with a sheet of the right length,
+/// and frames between them; returns the number of the installs.
+fn install_round(seed: u64) -> u64 {
+    let mut pair = Pair::new(seed);
+    let mut random = Random::new(seed);
+    for turn in 0..INSTALLS {
+        let length = any_length(&mut random, ADMIT_LIMIT + 1);
+        let program = any(&mut random, turn, length);
+        let sheet = match random.below(8) {
+            0 => random.below(2 * SHEET_RECORD * length + 1),
+            _ => SHEET_RECORD * length,
+        };
+        pair.install(&program, &mut pattern(sheet, turn as u64));
+        pair.frame(&any_record(&mut random), 100);
+    }
+    INSTALLS as u64
+}
+
 /// Programs of every kind into sheets, most of the right length; returns their number.
 fn admission_round(seed: u64) -> u64 {
     let mut admissions = Admissions::new(seed);
@@ -120,28 +148,33 @@ fn admission_round(seed: u64) -> u64 {
     admissions.calls()
 }
 
-/// A filter of the grammar with a list of frame calls, watched step by step.
-fn watched_round(seed: u64) -> Watch {
+/// A filter of the grammar with a list of frame calls, watched step by step, and of refused installs,
+/// which are counted.
+fn watched_round(seed: u64) -> (Watch, u64) {
     let mut random = Random::new(seed);
     let length = any_length(&mut random, ADMIT_LIMIT);
     let program = filter(&mut random, length);
     let mut watch = Watch::admitted(&program).expect("a filter of the grammar");
-    if let Err(what) = watched_frames(&mut watch, &mut random) {
-        panic!("seed {seed}:\n  {}\n  {what}", watch.shown());
+    match watched_calls(&mut watch, &mut random) {
+        Ok(refused_installs) => (watch, refused_installs),
+        Err(what) => panic!("seed {seed}:\n  {}\n  {what}", watch.shown()),
     }
-    watch
 }
 
-fn watched_frames(watch: &mut Watch, random: &mut Random) -> Watched<()> {
+fn watched_calls(watch: &mut Watch, random: &mut Random) -> Watched<u64> {
+    let mut refused_installs = 0;
     for _ in 0..10 {
         watch.put_bytes(random);
         let record = any_record(random);
         let budget = random.below(1_000) as u32;
-        if random.one_in(8) {
-            watch.frame_in_wrong_buffers(random, &record, budget)?;
-        } else {
-            watch.frame(&record, budget)?;
-        }
+        match random.below(8) {
+            0 => watch.frame_in_wrong_buffers(random, &record, budget)?,
+            1 => {
+                refused_installs += 1;
+                watch.refused_install(random)?
+            }
+            _ => watch.frame(&record, budget)?,
+        };
     }
-    Ok(())
+    Ok(refused_installs)
 }
