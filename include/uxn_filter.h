@@ -44,8 +44,9 @@ extern "C" {
 
 /* Program counter, pointer of the working stack, pointer of the return stack, and a high mark for each stack: the greatest value that
    its pointer had after any instruction since the last install or frame start, 0 there. After a frame the marks say how near to the end
-   of its stacks, 255, the filter came. Of an admitted filter each is at most the greatest depth of that stack on the sheet. Of another
-   one 255 may also be a stack that went round below 0. A call does not judge the marks that it is given. */
+   of its stacks, 255, the filter came. Where an install is followed by frame calls alone, each is at most the greatest depth of that
+   stack on the sheet. After an event, a run or a step 255 may also be a stack that went round below 0. A call does not judge the marks
+   that it is given. */
 typedef struct {
     uint16_t pc;
     uint8_t wp;
@@ -57,7 +58,8 @@ typedef struct {
 /* uxn_reply.answer */
 #define UXN_REFUSED 0 /* nothing was done: the reply has the record as given, every lent byte is as found, but for the sheet of an
                          install that is refused with 11, which is all zero; `number` says why */
-#define UXN_LOADED 1  /* uxn_install: the program is in memory, all else is zero, the counter is at 0x0100, its sheet is written */
+#define UXN_LOADED 1  /* uxn_install: the program is admitted and in memory, all else is zero, the counter is at 0x0100, the sheet is
+                         written */
 #define UXN_WENT_ON 2 /* uxn_step: the instruction was not BRK */
 #define UXN_BROKE 3   /* the last instruction was BRK; the counter is just past it */
 #define UXN_SPENT 4   /* the budget is used up and the last instruction was not BRK */
@@ -99,15 +101,16 @@ typedef struct {
 } uxn_reply;
 
 /* A filter goes in, if it is admitted: the sheet, of eight bytes for each program byte, is written as uxn_admit writes it, memory
-   becomes zero but for the program at 0x0100, device page and stacks zero, pointers and high marks 0, the counter 0x0100. Refused, it
-   leaves the record and the four buffers as found, so that the filter before it can go on; the sheet too, but for 11, which leaves it
-   all zero. Refusals: 1 to 4, 5, 9, 10, 11. */
+   becomes zero but for the program at 0x0100, device page and stacks zero, pointers and high marks 0, the counter 0x0100. If it is
+   refused, the record and the four buffers stay as found, so that the filter before it goes on; so does the sheet, but for 11, which
+   leaves it all zero. The program must not change while the call is under way, and the sheet must not overlap it. Refusals: 1 to 4, 5,
+   9, 10, 11. */
 uxn_reply uxn_install(uxn_machine machine, uint8_t *memory, size_t memory_length, uint8_t *device_page, size_t device_page_length,
                       uint8_t *working, size_t working_length, uint8_t *ret, size_t ret_length, const uint8_t *program,
                       size_t program_length, uint8_t *sheet, size_t sheet_length);
 
-/* One instruction; the reply says which ports it wrote. A port counts as written if the byte is the one that stood there. Refusals: 1 to
-   4. */
+/* One instruction; the reply says which ports it wrote. A port counts as written if the byte is the one that stood there. Refusals: 1
+   to 4. */
 uxn_reply uxn_step(uxn_machine machine, uint8_t *memory, size_t memory_length, uint8_t *device_page, size_t device_page_length,
                    uint8_t *working, size_t working_length, uint8_t *ret, size_t ret_length);
 
@@ -171,8 +174,8 @@ typedef struct {
     uxn_place other; /* the same address on another way; the routine's own address, whose return depth is the floor; another return */
 } uxn_why;
 
-/* Why a program is refused by uxn_admit. Where several rules fail, or one at several places, one of them is told; which one is
-   not promised. It needs no sheet. The program stays as it is, and its pointer may not be null. */
+/* Why a program is refused by uxn_install and uxn_admit. Where several rules fail, or one at several places, one of them is told;
+   which one is not promised. It needs no sheet. The program stays as it is, and its pointer may not be null. */
 uxn_why uxn_explain(const uint8_t *program, size_t program_length);
 
 /* What a call that writes to a lent output replies. */
@@ -220,9 +223,9 @@ uxn_written uxn_narrow_records(const uint8_t *new_records, size_t new_length, ui
  *
  * These functions are C, compiled with the host, and not proved: they only pass on. The calls that they make are proved.
  *
- * Before its first install the struct may hold anything. It has 66,310 bytes, so mind a small stack. Its fields may be read and
- * written between calls, and a copy of it is a copy of the machine. The program, the sheet and the record that are lent must not lie
- * in it, and no pointer may be null.
+ * Until an install has gone in the struct may hold anything: make no other call before. It has 66,310 bytes, so mind a small
+ * stack. Its fields may be read and written between calls, and a copy of it is a copy of the machine. The program, the sheet and the
+ * record that are lent must not lie in it, and no pointer may be null.
  */
 #if defined(__cplusplus) || (defined(__STDC_VERSION__) && __STDC_VERSION__ >= 199901L)
 
