@@ -1,9 +1,11 @@
-/* Every call that include/uxn_filter.h declares, as a C program makes it. Prints one line for each, for tests/header.rs. */
+/* Every call that include/uxn_filter.h and include/uxn_bench.h declare, as a C program makes it. Prints one line for each, for
+   tests/header.rs. */
 #include <stddef.h>
 #include <stdint.h>
 #include <stdio.h>
 #include <string.h>
 
+#include "uxn_bench.h"
 #include "uxn_filter.h"
 
 _Static_assert(sizeof(uxn_machine) == 6, "the machine record");
@@ -31,7 +33,8 @@ _Static_assert(offsetof(uxn_why, other) == 16, "other");
 
 static uint8_t memory[65536], device_page[256], working[256], ret[256];
 
-#define BUFFERS memory, sizeof memory, device_page, sizeof device_page, working, sizeof working, ret, sizeof ret
+#define BUFFERS_BUT_MEMORY device_page, sizeof device_page, working, sizeof working, ret, sizeof ret
+#define BUFFERS memory, sizeof memory, BUFFERS_BUT_MEMORY
 
 static void say(const char *call, uxn_reply r)
 {
@@ -40,14 +43,20 @@ static void say(const char *call, uxn_reply r)
            r.machine.wp_high, r.machine.rp_high);
 }
 
-static void say_sheet(const uint8_t *program, size_t length, uint8_t *sheet, size_t sheet_length)
+static void say_sheet(const uint8_t *sheet, size_t sheet_length)
 {
     size_t place;
 
-    printf("admit: %u, sheet", uxn_admit(program, length, sheet, sheet_length));
+    printf("sheet");
     for (place = 0; place < sheet_length; place++)
         printf(place % 8 ? " %02x" : ", %02x", sheet[place]);
     printf("\n");
+}
+
+static void say_admission(const uint8_t *program, size_t length, uint8_t *sheet, size_t sheet_length)
+{
+    printf("admit: %u, ", uxn_admit(program, length, sheet, sheet_length));
+    say_sheet(sheet, sheet_length);
 }
 
 static void say_place(uxn_place place)
@@ -110,36 +119,50 @@ int main(void)
     static const uint8_t called[] = {1, 2, 3, 0xa0, 2, 0, 0, 0};
     /* a record with data and one without, in the old form; the rest of them is zero */
     static const uint8_t old_records[2 * 64] = {3, 5, 7, 8, 9};
+    static const uint8_t longer[4097] = {0x00};
     uint8_t wide[18], narrow[9], wide_records[2 * 128 + 2], narrow_records[2 * 64 + 1];
-    uint8_t sheet[8 * sizeof program];
+    uint8_t sheet[8 * sizeof program], two_sheet[8 * sizeof two];
     uint8_t record[128];
     uxn_machine machine = {0x1234, 5, 6, 7, 8};
     uxn_reply reply;
     size_t n;
 
     memset(record, 0, sizeof record);
-    reply = uxn_load(machine, BUFFERS, program, sizeof program);
-    say("load", reply);
+    reply = uxn_install(machine, BUFFERS, program, sizeof program, sheet, sizeof sheet);
+    say("install", reply);
+    say_sheet(sheet, sizeof sheet);
     reply = uxn_step(reply.machine, BUFFERS);
     say("step", reply);
     reply = uxn_run(reply.machine, BUFFERS, 2, UXN_WATCH_NONE);
     say("run", reply);
-    reply = uxn_load(reply.machine, BUFFERS, program, sizeof program);
+    reply = uxn_install(reply.machine, BUFFERS, program, sizeof program, sheet, sizeof sheet);
     reply = uxn_run(reply.machine, BUFFERS, 2, 0xf2);
     say("run, watched", reply);
     reply = uxn_step(reply.machine, BUFFERS);
     say("step", reply);
     /* DEO2 at FF */
-    reply = uxn_load(reply.machine, BUFFERS, two, sizeof two);
+    reply = uxn_install(reply.machine, BUFFERS, two, sizeof two, two_sheet, sizeof two_sheet);
     reply = uxn_run(reply.machine, BUFFERS, 2, 0x00);
     reply = uxn_step(reply.machine, BUFFERS);
     say("step", reply);
-    reply = uxn_load(reply.machine, BUFFERS, two, sizeof two);
+    reply = uxn_install(reply.machine, BUFFERS, two, sizeof two, two_sheet, sizeof two_sheet);
     reply = uxn_run(reply.machine, BUFFERS, 3, 0x00);
     say("run, watched", reply);
     reply = uxn_run(reply.machine, BUFFERS, 100, 0x00);
     say("run, watched", reply);
-    reply = uxn_load(reply.machine, BUFFERS, program, sizeof program);
+    reply = uxn_install(reply.machine, BUFFERS, program, sizeof program, sheet, sizeof sheet);
+    reply = uxn_frame(reply.machine, BUFFERS, record, sizeof record, 100);
+    say("frame", reply);
+    /* the filter that is in stays */
+    reply = uxn_install(reply.machine, BUFFERS, two, sizeof two, sheet, sizeof sheet);
+    say("install", reply);
+    say_sheet(sheet, 16);
+    reply = uxn_install(reply.machine, BUFFERS, refused, sizeof refused, sheet, 16);
+    say("install", reply);
+    say_sheet(sheet, 24);
+    printf("install: %d\n", uxn_install(machine, memory, 1, BUFFERS_BUT_MEMORY, program, 0, sheet, 0).number == UXN_MEMORY_LENGTH);
+    printf("install: %d\n", uxn_install(machine, BUFFERS, program, 0, sheet, 0).number == UXN_PROGRAM_LENGTH);
+    printf("install: %d\n", uxn_install(machine, BUFFERS, longer, sizeof longer, sheet, 0).number == UXN_ADMIT_LENGTH);
     reply = uxn_frame(reply.machine, BUFFERS, record, sizeof record, 100);
     say("frame", reply);
     reply = uxn_event(reply.machine, BUFFERS, 15, 100, 0xf2);
@@ -162,10 +185,15 @@ int main(void)
     }
     printf("device -1: %d\n", uxn_event(reply.machine, BUFFERS, -1, 100, UXN_WATCH_NONE).number == UXN_DEVICE_NUMBER);
 
-    say_sheet(program, sizeof program, sheet, sizeof sheet);
-    say_sheet(program, sizeof program, sheet, 24);
-    say_sheet(caller, sizeof caller, sheet, 8 * sizeof caller);
-    say_sheet(refused, sizeof refused, sheet, 16);
+    /* the load of uxn_bench.h takes what an install refuses */
+    reply = uxn_load(reply.machine, BUFFERS, refused, sizeof refused);
+    say("load", reply);
+    printf("load: %d\n", uxn_load(machine, BUFFERS, program, 0).number == UXN_PROGRAM_LENGTH);
+
+    say_admission(program, sizeof program, sheet, sizeof sheet);
+    say_admission(program, sizeof program, sheet, 24);
+    say_admission(caller, sizeof caller, sheet, 8 * sizeof caller);
+    say_admission(refused, sizeof refused, sheet, 16);
     printf("admit: %d\n", uxn_admit(program, 0, sheet, 0) == UXN_PROGRAM_LENGTH);
     printf("admit: %d\n", uxn_admit(memory, 4097, sheet, 0) == UXN_ADMIT_LENGTH);
     printf("admit: %d\n", uxn_admit(program, sizeof program, sheet, 0) == UXN_SHEET_LENGTH);

@@ -1,5 +1,6 @@
-//! `include/uxn_filter.h` is C and C++, agrees with the library, and gives what document 01 says;
-//! its `uxn_host` passes on what it is given, and its version is raised when it changes.
+//! `include/uxn_filter.h` and `include/uxn_bench.h` are C and C++, agree with the library, and give
+//! what document 01 says; the load without admission is declared in the second alone. The `uxn_host`
+//! of the first passes on what it is given, and its version is raised when it changes.
 
 use std::fs;
 use std::path::{Path, PathBuf};
@@ -21,7 +22,9 @@ fn folder(test: &str) -> PathBuf {
 // The calls
 
 const SAYS: &str = "\
-load: answer 1, number 0, steps 0, verdict 0, sent 0 00 00, pc 0100, wp 0, rp 0, high 0 0
+install: answer 1, number 0, steps 0, verdict 0, sent 0 00 00, pc 0100, wp 0, rp 0, high 0 0
+sheet, 01 00 00 80 01 00 00 00, 00 00 00 01 00 00 00 00, 01 01 00 80 01 00 00 00, 00 00 00 f2 00 00 00 00, \
+01 02 00 17 01 00 00 00, 01 00 00 00 01 00 00 00
 step: answer 2, number 0, steps 1, verdict 0, sent 0 00 00, pc 0102, wp 1, rp 0, high 1 0
 run: answer 4, number 0, steps 2, verdict 0, sent 0 00 00, pc 0105, wp 0, rp 0, high 2 0
 run, watched: answer 4, number 0, steps 2, verdict 0, sent 0 00 00, pc 0104, wp 2, rp 0, high 2 0
@@ -29,6 +32,14 @@ step: answer 2, number 0, steps 1, verdict 0, sent 1 f2 00, pc 0105, wp 0, rp 0,
 step: answer 2, number 0, steps 1, verdict 0, sent 2 ff 00, pc 0106, wp 0, rp 0, high 3 0
 run, watched: answer 6, number 0, steps 3, verdict 0, sent 0 00 00, pc 0106, wp 0, rp 0, high 3 0
 run, watched: answer 3, number 0, steps 1, verdict 0, sent 0 00 00, pc 0107, wp 0, rp 0, high 3 0
+frame: answer 3, number 0, steps 4, verdict 1, sent 0 00 00, pc 0106, wp 0, rp 0, high 2 0
+install: answer 0, number 10, steps 0, verdict 0, sent 0 00 00, pc 0106, wp 0, rp 0, high 2 0
+sheet, 01 00 00 80 01 00 00 00, 00 00 00 01 00 00 00 00
+install: answer 0, number 11, steps 0, verdict 0, sent 0 00 00, pc 0106, wp 0, rp 0, high 2 0
+sheet, 00 00 00 00 00 00 00 00, 00 00 00 00 00 00 00 00, 01 01 00 80 01 00 00 00
+install: 1
+install: 1
+install: 1
 frame: answer 3, number 0, steps 4, verdict 1, sent 0 00 00, pc 0106, wp 0, rp 0, high 2 0
 event: answer 5, number 0, steps 0, verdict 0, sent 0 00 00, pc 0106, wp 0, rp 0, high 2 0
 event: answer 3, number 0, steps 4, verdict 0, sent 0 00 00, pc 0106, wp 0, rp 0, high 2 0
@@ -43,6 +54,8 @@ device 259: answer 0, number 6
 device 65539: answer 0, number 6
 device 4294967295: answer 0, number 6
 device -1: 1
+load: answer 1, number 0, steps 0, verdict 0, sent 0 00 00, pc 0100, wp 0, rp 0, high 0 0
+load: 1
 admit: 0, sheet, 01 00 00 80 01 00 00 00, 00 00 00 01 00 00 00 00, 01 01 00 80 01 00 00 00, 00 00 00 f2 00 00 00 00, \
 01 02 00 17 01 00 00 00, 01 00 00 00 01 00 00 00
 admit: 10, sheet, 01 00 00 80 01 00 00 00, 00 00 00 01 00 00 00 00, 01 01 00 80 01 00 00 00
@@ -104,9 +117,12 @@ const BUILDS: [(&str, &[&str]); 4] = [
 ];
 
 /// Every answer of every call on a machine that has its buffers.
-const MET: [&str; 16] = [
-    "load: answer 0, number 5",
-    "load: answer 1, number 0",
+const MET: [&str; 19] = [
+    "install: answer 0, number 5",
+    "install: answer 0, number 9",
+    "install: answer 0, number 10",
+    "install: answer 0, number 11",
+    "install: answer 1, number 0",
     "step: answer 2, number 0",
     "step: answer 3, number 0",
     "run: answer 3, number 0",
@@ -133,36 +149,43 @@ fn host_program(compiler: &str, standard: &str, include: &Path, program: &Path) 
     compile(compiler, standard, include, &source, program)
 }
 
+/// Each compiler that is there, with each of its standards.
+fn builds() -> Vec<(&'static str, &'static str)> {
+    let mut builds = Vec::new();
+    for (place, (compiler, standards)) in BUILDS.into_iter().enumerate() {
+        if place > 0 && !is_there(compiler) {
+            say(&format!(
+                "passed over: the headers by {compiler}, for there is none"
+            ));
+            continue;
+        }
+        builds.extend(standards.iter().map(|standard| (compiler, *standard)));
+    }
+    builds
+}
+
 /// The calls through the struct give the replies and bytes of the calls themselves, in C and C++.
 #[test]
 fn the_struct_passes_on() {
     let folder = folder("host");
-    for (place, (compiler, standards)) in BUILDS.into_iter().enumerate() {
-        if place > 0 && !is_there(compiler) {
-            say(&format!(
-                "passed over: the header by {compiler}, for there is none"
-            ));
-            continue;
-        }
-        for standard in standards {
-            let program = folder.join(format!("{compiler}_{standard}"));
-            let include = repository("include");
-            let mut built = host_program(compiler, standard, &include, &program);
-            assert_eq!(printed(built.arg("-O2")), "");
-            let said = printed(&mut Command::new(&program));
-            let met = said.lines().map(|line| {
-                let (what, count) = line.rsplit_once(": ").expect("a count");
-                let count: u32 = count.parse().expect("a number");
-                assert!(count >= 10, "{compiler} {standard}: {line}");
-                what
-            });
-            assert!(met.eq(MET), "{compiler} {standard}:\n{said}");
-        }
+    for (compiler, standard) in builds() {
+        let program = folder.join(format!("{compiler}_{standard}"));
+        let include = repository("include");
+        let mut built = host_program(compiler, standard, &include, &program);
+        assert_eq!(printed(built.arg("-O2")), "");
+        let said = printed(&mut Command::new(&program));
+        let met = said.lines().map(|line| {
+            let (what, count) = line.rsplit_once(": ").expect("a count");
+            let count: u32 = count.parse().expect("a number");
+            assert!(count >= 10, "{compiler} {standard}: {line}");
+            what
+        });
+        assert!(met.eq(MET), "{compiler} {standard}:\n{said}");
     }
 }
 
 /// What may be wrong in the header's struct and functions, as replacements; each has to be seen.
-const WRONG: [(&str, &str); 13] = [
+const WRONG: [(&str, &str); 15] = [
     ("host->machine = reply.machine;", "(void)host;"),
     ("uint8_t ret[256]", "uint8_t ret[255]"),
     ("sizeof (host)->device_page", "sizeof (host)->memory"),
@@ -171,8 +194,16 @@ const WRONG: [(&str, &str); 13] = [
         "(host)->ret, sizeof (host)->ret, (host)->working, sizeof (host)->working",
     ),
     (
-        "program, program_length));",
-        "program, program_length / 2));",
+        "program, program_length, sheet, sheet_length));",
+        "program, program_length / 2, sheet, sheet_length));",
+    ),
+    (
+        "program, program_length, sheet, sheet_length));",
+        "program, program_length, sheet + 1, sheet_length));",
+    ),
+    (
+        "program, program_length, sheet, sheet_length));",
+        "program, program_length, sheet, 8 * program_length + 0 * sheet_length));",
     ),
     (
         "GIVES(host), budget, watch)",
@@ -244,7 +275,7 @@ fn a_host_without_the_struct_pays_nothing() {
     build_c(&repository("harness/tests/host.c"), &with);
     build_c(&repository("harness/tests/header.c"), &without);
     assert!(symbols(&with, "uxn_host_") > 5);
-    assert!(symbols(&without, "uxn_load") == 1);
+    assert!(symbols(&without, "uxn_install") == 1);
     assert_eq!(symbols(&without, "uxn_host_"), 0);
 }
 
@@ -263,10 +294,79 @@ fn the_calls_are_declared_in_c90_too() {
     assert_eq!(printed(&mut Command::new(&program)), "");
 }
 
+// The load without admission
+
+/// A program that loads one of one byte; C90 and C++ too.
+const LOADS: &str = "\
+static uint8_t memory[65536], device_page[256], working[256], ret[256];
+int main(void)
+{
+    static const uxn_machine machine = {0, 0, 0, 0, 0};
+    static const uint8_t program[1] = {0x02};
+    uxn_reply reply = uxn_load(machine, memory, sizeof memory, device_page, sizeof device_page, working, sizeof working, ret,
+                               sizeof ret, program, sizeof program);
+    return reply.answer != UXN_LOADED || memory[0x0100] != program[0];
+}
+";
+
+/// The command that builds it, with these headers in their order.
+fn loading(compiler: &str, standard: &str, headers: &[&str], program: &Path) -> Command {
+    let source = program.with_extension("source");
+    let mut text = String::new();
+    for header in headers {
+        text += &format!("#include \"{header}\"\n");
+    }
+    fs::write(&source, text + LOADS).expect("the source is written");
+    compile(compiler, standard, &repository("include"), &source, program)
+}
+
+/// `uxn_bench.h` needs no other header before it, and may stand before or after `uxn_filter.h`.
+#[test]
+fn the_load_is_declared_by_its_header_alone() {
+    let folder = folder("bench");
+    let (filter, bench) = ("uxn_filter.h", "uxn_bench.h");
+    for (compiler, standard) in [("gcc", "c90")].into_iter().chain(builds()) {
+        let named = |place: usize| folder.join(format!("{compiler}_{standard}_{place}"));
+        let orders = [&[bench][..], &[filter, bench], &[bench, filter]];
+        for (place, headers) in orders.into_iter().enumerate() {
+            let program = named(place);
+            let mut built = loading(compiler, standard, headers, &program);
+            assert_eq!(printed(&mut built), "");
+            assert_eq!(printed(&mut Command::new(&program)), "");
+        }
+        let mut built = loading(compiler, standard, &[filter], &named(orders.len()));
+        let ended = built.output().expect("the compiler runs");
+        let said = String::from_utf8_lossy(&ended.stderr);
+        let first = said.lines().find(|line| line.contains(" error: "));
+        assert!(
+            !ended.status.success() && first.is_some_and(|line| line.contains("uxn_load")),
+            "{built:?} ended with {}:\n{said}",
+            ended.status
+        );
+    }
+}
+
+/// With `--gc-sections` a host that does not call it does not have it.
+#[test]
+fn the_load_is_left_out() {
+    let folder = folder("bench_unused");
+    let (whole, less) = (folder.join("whole"), folder.join("less"));
+    let include = repository("include");
+    assert_eq!(
+        printed(&mut host_program("gcc", "c99", &include, &whole)),
+        ""
+    );
+    let mut built = host_program("gcc", "c99", &include, &less);
+    assert_eq!(printed(built.arg("-Wl,--gc-sections")), "");
+    assert_eq!(symbols(&whole, "uxn_load"), 1);
+    assert_eq!(symbols(&less, "uxn_load"), 0);
+    assert_eq!(symbols(&less, "uxn_install"), 1);
+}
+
 // The version
 
 /// The version, and a sum over the header without comments and white space as it is in that version.
-const INTERFACE: (&str, u64) = ("7", 12_401_643_183_922_909_111);
+const INTERFACE: (&str, u64) = ("8", 8_001_850_762_368_214_468);
 
 /// The header without comments and white space.
 fn bare(header: &str) -> String {

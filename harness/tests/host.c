@@ -1,6 +1,6 @@
 /* The calls of include/uxn_filter.h, each made on buffers lent one by one and once more through a uxn_host. After each, the
-   two replies, the two records and every byte of the buffers must be the same. C99 and C++ both. For tests/header.rs it prints how
-   often each answer of each call came; at a difference it says where, and ends with status 1. */
+   two replies, the two records and every byte of the buffers and of the sheets must be the same. C99 and C++ both. For tests/header.rs
+   it prints how often each answer of each call came; at a difference it says where, and ends with status 1. */
 #include <stddef.h>
 #include <stdint.h>
 #include <stdio.h>
@@ -8,13 +8,17 @@
 
 #include "uxn_filter.h"
 
-enum { LOAD, STEP, RUN, EVENT, FRAME, CALLS };
+enum { INSTALL, STEP, RUN, EVENT, FRAME, CALLS };
 
-static const char *const names[CALLS] = {"load", "step", "run", "event", "frame"};
+static const char *const names[CALLS] = {"install", "step", "run", "event", "frame"};
+
+#define LONGEST_SHEET (8 * 4096)
 
 static uint8_t memory[65536], device_page[256], working[256], ret[256];
 static uxn_machine machine;
 static uxn_host host;
+/* One is lent with the buffers, the other with the host; the last byte is beyond every sheet. */
+static uint8_t sheet[LONGEST_SHEET + 1], host_sheet[LONGEST_SHEET + 1];
 
 #define BUFFERS memory, sizeof memory, device_page, sizeof device_page, working, sizeof working, ret, sizeof ret
 
@@ -60,6 +64,8 @@ static const char *difference(uxn_reply raw, uxn_reply through)
         return "working stack";
     if (memcmp(ret, host.ret, sizeof ret) != 0)
         return "return stack";
+    if (memcmp(sheet, host_sheet, sizeof sheet) != 0)
+        return "sheet";
     return NULL;
 }
 
@@ -80,15 +86,48 @@ static void put(uint8_t *raw, uint8_t *through, uint32_t length)
     raw[place] = through[place] = (uint8_t)below(256);
 }
 
-static uxn_reply load(uxn_reply *through)
+/* Any bytes into both memories, as a program that need not be one that is admitted. */
+static void put_program(void)
 {
-    static const uint32_t lengths[] = {0, 1, 65280, 65281};
-    static uint8_t program[65281];
-    size_t length = below(4) ? 1 + below(300) : lengths[below(4)];
+    size_t length = 1 + below(300);
 
-    fill(program, length);
-    *through = uxn_host_load(&host, program, length);
-    return uxn_load(machine, BUFFERS, program, length);
+    fill(memory + 0x0100, length);
+    memcpy(host.memory + 0x0100, memory + 0x0100, length);
+}
+
+/* Writes of any bytes to any ports, and BRK: it is admitted. */
+static size_t admitted_program(uint8_t *program)
+{
+    size_t length = 0, end = 5 * below(60);
+
+    while (length < end) {
+        program[length++] = 0x80;
+        program[length++] = (uint8_t)below(256);
+        program[length++] = 0x80;
+        program[length++] = (uint8_t)(below(2) ? 0x80 : below(256));
+        program[length++] = 0x17;
+    }
+    program[length++] = 0x00;
+    return length;
+}
+
+static uxn_reply install(uxn_reply *through)
+{
+    static const uint32_t lengths[] = {0, 1, 4096, 4097, 65280, 65281};
+    static uint8_t program[65281];
+    size_t length, sheet_length;
+
+    if (below(2)) {
+        length = admitted_program(program);
+    } else {
+        length = below(4) ? 1 + below(300) : lengths[below(6)];
+        fill(program, length);
+    }
+    sheet_length = 8 * (length < 4096 ? length : 4096);
+    if (below(4) == 0)
+        sheet_length = below(LONGEST_SHEET + 1);
+    *through = uxn_host_install(&host, program, length, host_sheet, sheet_length);
+    return uxn_install(machine, BUFFERS, program, length, sheet, sheet_length);
 }
 
 /* What is watched: nothing, by any number for it, or a port. Most bytes on the stacks are 80. */
@@ -141,10 +180,13 @@ int main(void)
         put(device_page, host.device_page, sizeof device_page);
         put(working, host.working, sizeof working);
         put(ret, host.ret, sizeof ret);
-        call = turn % 16 == 0 ? (unsigned)LOAD : below(CALLS);
+        put(sheet, host_sheet, sizeof sheet);
+        if (turn % 4 == 0)
+            put_program();
+        call = turn % 16 == 0 ? (unsigned)INSTALL : below(CALLS);
         switch (call) {
-        case LOAD:
-            raw = load(&through);
+        case INSTALL:
+            raw = install(&through);
             break;
         case STEP:
             through = uxn_host_step(&host);
