@@ -1,5 +1,5 @@
 //! `docs/INTEGRATION.md`: its programs are built by its commands and print what it says, and its
-//! tables agree with the header and the archive.
+//! tables agree with the headers and the archive.
 
 use std::collections::{BTreeMap, BTreeSet};
 use std::fs;
@@ -9,8 +9,8 @@ use std::process::Command;
 use std::thread;
 
 use uxn_filter_harness::calls::{
-    Machine, Owned, Reply, ADMITTED, ADMIT_LIMIT, LOADED, PROGRAM_START, RECORD, SHEET_RECORD,
-    SPENT, WATCH_NONE,
+    Machine, Owned, Reply, ADMIT_LIMIT, LOADED, PROGRAM_START, RECORD, SHEET_RECORD, SPENT,
+    WATCH_NONE,
 };
 use uxn_filter_harness::compiled::{build_c, library, printed, repository};
 use uxn_filter_harness::disassembly::{self, called, Instruction};
@@ -21,7 +21,7 @@ use uxn_filter_harness::page::{self, blocks, table, Block};
 use uxn_filter_harness::pair::say;
 use uxn_filter_harness::random::{seed, Random};
 
-// The page and the header
+// The page and the headers
 
 fn page() -> String {
     page::read("INTEGRATION.md")
@@ -29,6 +29,11 @@ fn page() -> String {
 
 fn header() -> String {
     fs::read_to_string(repository("include/uxn_filter.h")).expect("the header")
+}
+
+/// The header for document 01's cases and for tests.
+fn bench_header() -> String {
+    fs::read_to_string(repository("include/uxn_bench.h")).expect("the header")
 }
 
 /// The one block of this kind and name.
@@ -139,6 +144,7 @@ fn the_programs_print_what_the_page_says() {
     for (language, name, printed, compiler) in [
         ("c", "filter.c", "", gcc),
         ("rust", "filter.rs", "", rustc),
+        ("c", "replace.c", "replace.c", gcc),
         ("c", "send.c", "send.c", gcc),
         ("c", "calls.c", "calls.c", gcc),
         ("c", "why.c", "why.c", gcc),
@@ -151,7 +157,21 @@ fn the_programs_print_what_the_page_says() {
         let commands = &block(&blocks, "sh", name).text;
         assert!(commands.starts_with(compiler), "{commands:?}");
     }
-    assert_eq!(blocks.len(), 20, "a block that is not tested");
+    assert_eq!(blocks.len(), 23, "a block that is not tested");
+}
+
+/// C-15: "all other callers of load use this call; the plain load stays for the bench only". The page
+/// says once where it is.
+#[test]
+fn the_page_installs() {
+    let page = page();
+    for call in declared(&bench_header()) {
+        let lines: Vec<&str> = page.lines().filter(|line| line.contains(&call)).collect();
+        assert!(
+            matches!(lines[..], [line] if line.starts_with("| `include/uxn_bench.h` | ")),
+            "{lines:?}"
+        );
+    }
 }
 
 // Constants and layout
@@ -242,13 +262,12 @@ fn the_page_has_every_function_over_the_struct() {
         let whole = quoted(&row[0]).concat();
         let (name, given) = whole.split_once('(').expect("a function");
         let given: Vec<&str> = given.trim_end_matches(')').split(", ").collect();
-        let of_the_header = header
-            .lines()
-            .find_map(|line| line.strip_prefix(&format!("static inline uxn_reply {name}(")))
+        let (_, of_the_header) = header
+            .split_once(&format!("static inline uxn_reply {name}("))
             .unwrap_or_else(|| panic!("the header has no {name}"));
+        let (of_the_header, _) = of_the_header.split_once(')').expect("its parameters");
         let parameters: Vec<&str> = of_the_header
-            .trim_end_matches(')')
-            .split(", ")
+            .split(',')
             .map(|parameter| parameter.rsplit([' ', '*']).next().unwrap())
             .collect();
         assert_eq!(given, parameters, "{name}");
@@ -300,7 +319,11 @@ fn the_archive_needs_and_defines_what_the_page_says() {
         .into_iter()
         .collect();
     assert_eq!(of_kind("U"), needed, "undefined symbols");
-    assert_eq!(of_kind("T"), declared(&header()), "functions");
+    // Each function is declared in one of the two headers.
+    let (mut calls, bench) = (declared(&header()), declared(&bench_header()));
+    assert!(calls.is_disjoint(&bench), "{bench:?}");
+    calls.extend(bench);
+    assert_eq!(of_kind("T"), calls, "functions");
     assert!(of_the_archive(&page, "writable data").starts_with("none"));
     for (kind, name) in &symbols {
         assert!("UTtr".contains(*kind), "{name} is of kind {kind}");
@@ -323,7 +346,7 @@ fn the_archive_has_the_sections_that_the_page_says() {
         );
         size += if known { *bytes } else { 0 };
     }
-    for function in declared(&header()) {
+    for function in declared(&(header() + &bench_header())) {
         assert!(
             sections.contains_key(&format!(".text.{function}")),
             "{function}"
@@ -504,11 +527,13 @@ fn calls_set_what_the_page_says() {
     let start = Machine::at(PROGRAM_START, 0, 0);
 
     let mut own = dirty.clone();
-    let loaded = calls::load(given, own.lend(), &[7, 8, 9]);
+    // LIT 07, BRK
+    let program = [0x80, 0x07, 0x00];
+    let installed = calls::install(given, own.lend(), &program, &mut [0; 3 * SHEET_RECORD]);
     let mut expected = Owned::new();
-    expected.memory[0x0100..0x0103].copy_from_slice(&[7, 8, 9]);
-    assert_eq!((loaded.answer, loaded.machine), (LOADED, start));
-    assert!(own == expected, "load");
+    expected.memory[0x0100..0x0103].copy_from_slice(&program);
+    assert_eq!((installed.answer, installed.machine), (LOADED, start));
+    assert!(own == expected, "install");
 
     let mut own = dirty.clone();
     let framed = calls::frame(given, own.lend(), &record, 0);
@@ -539,11 +564,10 @@ fn work(seed: u64) -> (Vec<Reply>, Owned) {
     let length = any_length(&mut random, ADMIT_LIMIT);
     let program = filter(&mut random, length);
     let mut sheet = vec![0; SHEET_RECORD * program.len()];
-    assert_eq!(calls::admit(&program, &mut sheet), ADMITTED);
     let mut own = Owned::new();
-    let loaded = calls::load(Machine::default(), own.lend(), &program);
-    assert_eq!(loaded.answer, LOADED);
-    let mut replies = vec![loaded];
+    let installed = calls::install(Machine::default(), own.lend(), &program, &mut sheet);
+    assert_eq!(installed.answer, LOADED);
+    let mut replies = vec![installed];
     for _ in 0..300 {
         let record = random_record(&mut random);
         let machine = replies.last().unwrap().machine;

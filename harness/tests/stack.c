@@ -6,7 +6,7 @@
 #include <string.h>
 #include <ucontext.h>
 
-#include "uxn_filter.h"
+#include "uxn_bench.h"
 
 static uint8_t memory[65536], device_page[256], working[256], ret[256];
 static uint8_t program[4096], sheet[8 * sizeof program], record[128];
@@ -23,7 +23,7 @@ static ucontext_t host, guest;
 static const uxn_machine start = {0x0100, 8, 8, 0, 0};
 
 static void none(void) {}
-static void load(void) { uxn_load(start, BUFFERS, program, length); }
+static void install(void) { uxn_install(start, BUFFERS, program, length, sheet, 8 * length); }
 static void step(void) { uxn_step(start, BUFFERS); }
 static void run(void) { uxn_run(start, BUFFERS, 100, 0x00); }
 static void event(void) { uxn_event(start, BUFFERS, 0, 100, 0x00); }
@@ -68,7 +68,8 @@ static size_t most(void (*call)(void))
                 memset(program, byte % 256, length);
                 called = byte >= 256 && length > sizeof jsi;
                 memcpy(program, jsi, called ? sizeof jsi : 0);
-                load();
+                /* Steps, runs, events and frames have a program that need not be admitted. */
+                uxn_load(start, BUFFERS, program, length);
                 device_page[0] = 1;
                 found = taken(call, paint);
                 if (found > result)
@@ -82,7 +83,7 @@ int main(void)
     static const struct {
         const char *name;
         void (*call)(void);
-    } calls[] = {{"uxn_load", load},
+    } calls[] = {{"uxn_install", install},
                  {"uxn_step", step},
                  {"uxn_run", run},
                  {"uxn_event", event},
