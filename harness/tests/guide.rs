@@ -26,7 +26,7 @@ use uxn_filter_harness::linked::{
     Written, BUDGET, NARROW, WIDEN,
 };
 use uxn_filter_harness::listing::{self, hexadecimal, listing, Listed};
-use uxn_filter_harness::opcodes::{BRK, JMP2R};
+use uxn_filter_harness::opcodes::{BRK, JMP2R, POP};
 use uxn_filter_harness::page::{self, cells, Block};
 use uxn_filter_harness::pair::{say, Pair, Part};
 use uxn_filter_harness::reasons::RULES;
@@ -172,13 +172,33 @@ fn assert_admitted_with(name: &str, code: &[u8], sheet: &[u8]) {
     assert_eq!(sheet_of(code), sheet, "{name}: what `sheet` writes");
 }
 
-/// The head of a refused program is the line of `explain`; `sheet` says its number alone.
+/// The head of a refused program is the line of `explain`; `sheet` and `frames` have its number alone.
 fn assert_refused(name: &str, code: &[u8], head: &str, number: u8) {
     assert_eq!(Admissions::new(0).admit(code), number, "{name}");
     let line = Written::only_out(format!("{head}\n"));
     assert_writes(&mut explain(), code, &line);
-    let said = Written::only_said(format!("refused {number}\n"));
-    assert_writes(&mut sheet(), code, &said);
+    let refused = format!("refused {number}\n");
+    assert_writes(&mut sheet(), code, &Written::only_said(&*refused));
+    assert_eq!(line_for_zeros(name, code), refused);
+}
+
+/// What `frames` writes for one frame of zeros.
+fn line_for_zeros(name: &str, code: &[u8]) -> String {
+    let folder = folder(&format!("zeros_{name}"));
+    let rom = file(&folder, "filter.rom", code);
+    lines_of(&rom, &file(&folder, "records.bin", &[0; RECORD]))
+}
+
+/// A filter, installed.
+fn installed(code: &[u8]) -> Pair {
+    let mut pair = Pair::new(0);
+    install(&mut pair, code);
+    pair
+}
+
+fn install(pair: &mut Pair, code: &[u8]) {
+    let mut sheet = vec![0; SHEET_RECORD * code.len()];
+    assert_eq!(pair.install(code, &mut sheet).answer, LOADED);
 }
 
 /// The line that `frames` writes for each record, and the second machine; demand 3 is watched.
@@ -195,8 +215,7 @@ fn assert_lines(name: &str, code: &[u8], records: &[[u8; RECORD]], lines: &str) 
         "{name}: the second machine"
     );
 
-    let mut pair = Pair::new(0);
-    assert_eq!(pair.load(code).answer, LOADED);
+    let mut pair = installed(code);
     let mut watch = Watch::admitted(code).unwrap_or_else(|what| panic!("{name}: {what}"));
     let steps = records.iter().map(|record| {
         if let Err(what) = watch.frame(record, BUDGET) {
@@ -288,8 +307,7 @@ fn the_frame_in_memory() {
         .map(|row| number(row[0].split_whitespace().next()))
         .collect();
     let last = number(rows[3][0].split_whitespace().last());
-    let mut pair = Pair::new(0);
-    pair.load(&[BRK]);
+    let mut pair = installed(&[BRK]);
     for record in [record("02 05 12 34"), data(MOST, 0x12, 0x34)] {
         pair.frame(&record, BUDGET);
         let memory = pair.bytes(Part::Memory);
@@ -300,10 +318,10 @@ fn the_frame_in_memory() {
 }
 
 /// What the table says of the zero page: its first row stays from frame to frame, its second is the
-/// record, and there is no more.
+/// record, and there is no more. An install that is refused changes nothing.
 #[test]
 fn the_zero_page_from_frame_to_frame() {
-    let rows = table("| what the filter finds | after a load | when a frame comes |");
+    let rows = table("| what the filter finds | after an install | when a frame comes |");
     let ends = rows[..2].iter().flat_map(|row| {
         let (first, last) = row[0].split_once(" .. ").expect("from .. to");
         [first, last].map(|end| usize::from_str_radix(end, 16).expect("an address"))
@@ -319,8 +337,9 @@ fn the_zero_page_from_frame_to_frame() {
     );
     assert!(page().contains(&bytes), "{bytes:?}");
 
-    let mut pair = Pair::new(0);
-    pair.load(&[BRK]);
+    let mut pair = installed(&[BRK]);
+    pair.put(Part::Memory, first, &[0xff; 256]);
+    install(&mut pair, &[BRK]);
     assert_eq!(pair.bytes(Part::Memory)[..=last], [0; 256]);
     let before: Vec<u8> = (1..=kept as u8 + 1).collect();
     pair.put(Part::Memory, first, &before);
@@ -330,6 +349,8 @@ fn the_zero_page_from_frame_to_frame() {
         data(MOST, 0xff, 0xff),
     ] {
         pair.frame(&record, BUDGET);
+        let refused = pair.install(&[POP], &mut [0; SHEET_RECORD]);
+        assert_eq!(refused.number, NOT_ADMITTED);
         let memory = pair.bytes(Part::Memory);
         assert_eq!(memory[..=kept], before);
         assert_eq!(memory[frame..=last], record);
@@ -343,12 +364,9 @@ fn the_zero_page_from_frame_to_frame() {
 fn whether_a_data_byte_stands_there() {
     let test = "DUP LIT 82 SUB LIT 80 LDZ LTH";
     assert!(page().contains(test), "{test:?}");
-    let mut pair = Pair::new(0);
     for at in 0..=0xff {
         let words = format!("LIT {at:02x} {test} LIT F2 DEO BRK");
-        let code = assembled(&words);
-        assert_eq!(Admissions::new(0).admit(&code), ADMITTED);
-        pair.load(&code);
+        let mut pair = installed(&assembled(&words));
         for length in 0..=MOST {
             let reply = pair.frame(&data(length, 0, 0), BUDGET);
             let there = (0x82..0x82 + length).contains(&at);
@@ -367,8 +385,7 @@ fn the_loops_end_where_the_data_ends() {
         ("pairs", 0x01, 0x07, 0x01),
     ];
     for (name, byte, sought, other) in cases {
-        let mut pair = Pair::new(0);
-        pair.load(&hexadecimal(&block("bytes", name).unwrap()));
+        let mut pair = installed(&hexadecimal(&block("bytes", name).unwrap()));
         pair.put(Part::Memory, 0, &[sought; 0x80]);
         for length in 0..=MOST {
             let there = pair.frame(&data(length, byte, sought), BUDGET);
@@ -638,8 +655,6 @@ fn every_refusal_is_there() {
 
 #[test]
 fn refused_programs_and_the_same_mended() {
-    let folder = folder("refused_programs_and_the_same_mended");
-    let records = file(&folder, "records.bin", &[0; RECORD]);
     let mut refused = 0;
     for Block { name, text, .. } in blocks("refused") {
         println!("refused {name}");
@@ -662,10 +677,6 @@ fn refused_programs_and_the_same_mended() {
             if number == NOT_ADMITTED {
                 assert_fault(&name, head, lines);
             }
-            if number == 5 {
-                let rom = file(&folder, "program.rom", &code);
-                assert_eq!(lines_of(&rom, &records), format!("{head}\n"));
-            }
             refused += 1;
         }
     }
@@ -679,11 +690,18 @@ fn the_numbers_of_the_table() {
     let numbers: Vec<u8> = rows.iter().map(|row| row[0].parse().unwrap()).collect();
     assert_eq!(numbers, [5, 7, 8, 9, 10, 11, 15, 16]);
 
-    let mut pair = Pair::new(0);
-    for (length, number) in [(0, 5), (1, 0), (PROGRAM_LIMIT, 0), (PROGRAM_LIMIT + 1, 5)] {
-        assert_eq!(pair.load(&vec![0; length]).number, number);
+    for (length, line) in [
+        (0, "refused 5"),
+        (1, "drop"),
+        (ADMIT_LIMIT, "drop"),
+        (ADMIT_LIMIT + 1, "refused 9"),
+        (PROGRAM_LIMIT, "refused 9"),
+        (PROGRAM_LIMIT + 1, "refused 9"),
+    ] {
+        let written = line_for_zeros("numbers", &vec![BRK; length]);
+        assert_eq!(written, format!("{line}\n"), "{length} bytes");
     }
-    pair.load(&[BRK]);
+    let mut pair = installed(&[BRK]);
     for length in [0, OLD_RECORD, RECORD - 1, RECORD + 1, 2 * RECORD] {
         let reply = pair.frame(&vec![0; length], BUDGET);
         assert_eq!((reply.answer, reply.number), (REFUSED, 7));
