@@ -3,6 +3,7 @@
 //! explains, and the example. Of all programs, `widen` and `narrow` too: `--help`, wrong arguments, little
 //! memory, and valgrind.
 
+use std::collections::BTreeSet;
 use std::ffi::OsStr;
 use std::fs::{self, File};
 use std::io::{self, BufRead, BufReader, Read, Write};
@@ -18,11 +19,14 @@ use std::time::{Duration, Instant};
 
 use uxn_filter_harness::admissions::Admissions;
 use uxn_filter_harness::assembler::assemble;
-use uxn_filter_harness::calls::{ADMIT_LIMIT, OLD_RECORD, PROGRAM_LIMIT, RECORD, SHEET_RECORD};
+use uxn_filter_harness::calls::{
+    ADMIT_LIMIT, BROKE, OLD_RECORD, PROGRAM_LIMIT, RECORD, SHEET_RECORD,
+};
 use uxn_filter_harness::compiled::repository;
 use uxn_filter_harness::filters::{
-    any, any_length, broken, climb, likely_bytes, FAULTS, ROOM_FOR_A_FAULT,
+    any, any_length, broken, climb, filter, forbidden_bytes, likely_bytes, FAULTS, ROOM_FOR_A_FAULT,
 };
+use uxn_filter_harness::library;
 use uxn_filter_harness::linked::{
     self, after, assert_writes, assert_written, calling, ends, expected_explained, expected_frames,
     expected_lines, expected_sheet, explain, failing, file, frames, full, lines_of, pipe, program,
@@ -31,10 +35,11 @@ use uxn_filter_harness::linked::{
     NO_SPACE, OUTPUT, PASSES, PATIENCE, SIGPIPE, STDIN, WIDEN,
 };
 use uxn_filter_harness::listing::{self, hexadecimal, listing, Listed};
-use uxn_filter_harness::opcodes::{BRK, DUP, INC, JMP2R, LIT, POP};
-use uxn_filter_harness::pair::say;
+use uxn_filter_harness::opcodes::{BRK, DUP, INC, JMP2R, LIT, POP, STA};
+use uxn_filter_harness::pair::{say, Pair};
 use uxn_filter_harness::programs::either;
 use uxn_filter_harness::random::{seed, Random};
+use uxn_filter_harness::reasons::RULES;
 use uxn_filter_harness::records::{any_good, changed};
 use uxn_filter_harness::sentences;
 
@@ -57,6 +62,30 @@ fn record(node: u8, data: &[u8]) -> [u8; RECORD] {
     record[1] = node;
     record[2..2 + data.len()].copy_from_slice(data);
     record
+}
+
+/// LIT without its operand: not the whole instruction lies in the program.
+const REFUSED: [u8; 1] = [0x80];
+
+/// A program for each refusal of an install, and the one line that `frames` writes of it.
+fn refusals() -> [(Vec<u8>, &'static str); 3] {
+    [
+        (Vec::new(), "refused 5\n"),
+        (vec![BRK; ADMIT_LIMIT + 1], "refused 9\n"),
+        (REFUSED.to_vec(), "refused 11\n"),
+    ]
+}
+
+/// A program of every kind by turns, one that may come to the ends of the depths, and one with a fault.
+fn of_every_kind(random: &mut Random, turn: usize) -> [Vec<u8>; 3] {
+    let length = any_length(random, ADMIT_LIMIT + 1);
+    let any = any(random, turn, length);
+    let [working, ret] = [(); 2].map(|()| random.choose(&[0, 1, 5, 250, 254, 255]));
+    let mut deep = climb(working, ret);
+    let length = 1 + random.below(40);
+    deep.extend(likely_bytes(random, length));
+    let fault = FAULTS[turn % FAULTS.len()];
+    [any, deep, broken(random, ROOM_FOR_A_FAULT, fault)]
 }
 
 // Arguments
@@ -85,7 +114,9 @@ fn help() {
         RECORD,
         budget,
         5,
-        PROGRAM_LIMIT,
+        9,
+        ADMIT_LIMIT,
+        11,
         8,
         RECORD - 2,
         0,
@@ -196,10 +227,30 @@ fn frames_says_what_it_can_not_read() {
 #[test]
 fn a_refused_program_and_records_that_are_missing() {
     let folder = folder("a_refused_program_and_records_that_are_missing");
-    let empty = file(&folder, "empty.rom", &[]);
     let missing = folder.join("missing");
     let expected = Written::failed(&missing, NO_FILE);
-    assert_writes(frames().arg(&empty).arg(&missing), &[], &expected);
+    for (code, _) in refusals() {
+        let refused = file(&folder, "refused.rom", &code);
+        assert_writes(frames().arg(&refused).arg(&missing), &[], &expected);
+    }
+}
+
+/// Whatever the record file is: empty, with records of a wrong form, with a part record, without end, or
+/// one that can not be read. Nothing of it is read.
+#[test]
+fn a_refused_program_gives_one_line() {
+    let folder = folder("a_refused_program_gives_one_line");
+    let none = file(&folder, "none.bin", &[]);
+    let wrong = file(&folder, "wrong.bin", &[0xff; 3 * RECORD]);
+    let part = file(&folder, "part.bin", &[0; RECORD + 9]);
+    for (code, line) in refusals() {
+        let rom = file(&folder, "program.rom", &code);
+        let [endless, unreadable] = ["/dev/zero", "/proc/self/mem"].map(Path::new);
+        for records in [&*none, &wrong, &part, endless, unreadable, &folder] {
+            let expected = Written::only_out(line);
+            assert_writes(frames().arg(&rom).arg(records), &[], &expected);
+        }
+    }
 }
 
 #[test]
@@ -211,53 +262,76 @@ fn lengths_of_programs() {
         &[&record(1, &[7])[..], &record(2, &[]), &[0; 9]].concat(),
     );
     let none = file(&folder, "none.bin", &[]);
-    for (length, taken) in [
-        (0, false),
-        (1, true),
-        (ADMIT_LIMIT + 1, true),
-        (PROGRAM_LIMIT - 1, true),
-        (PROGRAM_LIMIT, true),
-        (PROGRAM_LIMIT + 1, false),
-        (70_000, false),
-        (1_000_000, false),
+    let passes = "pass\npass\n";
+    for (length, lines) in [
+        (0, "refused 5\n"),
+        (1, "refused 11\n"),
+        (PASSES.len() - 1, "refused 11\n"),
+        (PASSES.len(), passes),
+        (ADMIT_LIMIT - 1, passes),
+        (ADMIT_LIMIT, passes),
+        (ADMIT_LIMIT + 1, "refused 9\n"),
+        (PROGRAM_LIMIT, "refused 9\n"),
+        (PROGRAM_LIMIT + 1, "refused 9\n"),
+        (70_000, "refused 9\n"),
+        (1_000_000, "refused 9\n"),
     ] {
-        let mut code = vec![0; length];
-        let kept = length.min(PASSES.len());
-        code[..kept].copy_from_slice(&PASSES[..kept]);
+        let mut code = PASSES.to_vec();
+        code.resize(length, BRK);
         let rom = file(&folder, "program.rom", &code);
-        let lines = lines_of(&rom, &records);
-        if taken {
-            assert_eq!(
-                lines,
-                if length == 1 {
-                    "drop\ndrop\n"
-                } else {
-                    "pass\npass\n"
-                },
-                "length {length}"
-            );
-            assert_eq!(lines_of(&rom, &none), "");
-        } else {
-            assert_eq!(lines, "refused 5\n", "length {length}");
-            assert_eq!(lines_of(&rom, &none), "refused 5\n");
-        }
+        assert_eq!(lines_of(&rom, &records), lines, "length {length}");
+        let alone = if lines == passes { "" } else { lines };
+        assert_eq!(lines_of(&rom, &none), alone, "length {length}");
     }
+    let shortest = file(&folder, "program.rom", &[BRK]);
+    assert_eq!(lines_of(&shortest, &records), "drop\ndrop\n");
     // No more is read than tells that it is too long.
-    assert_eq!(lines_of(Path::new("/dev/zero"), &records), "refused 5\n");
+    assert_eq!(lines_of(Path::new("/dev/zero"), &records), "refused 9\n");
 }
 
-/// The last byte of the longest program is loaded.
+/// The last byte of the longest program is there, and is judged.
 #[test]
-fn the_longest_program_is_loaded_whole() {
-    let folder = folder("the_longest_program_is_loaded_whole");
-    // Jumps to the last six bytes of memory, which pass the frame.
-    let mut code = assemble("LIT2 fffa JMP2");
-    code.resize(PROGRAM_LIMIT - PASSES.len(), 0);
-    code.extend(PASSES);
-    assert_eq!(code.len(), PROGRAM_LIMIT);
-    let rom = file(&folder, "program.rom", &code);
+fn the_longest_program_is_installed_whole() {
+    let folder = folder("the_longest_program_is_installed_whole");
     let records = file(&folder, "records.bin", &record(0, &[]));
-    assert_eq!(lines_of(&rom, &records), "pass\n");
+    // Jumps over bytes that are not allowed to the last six, which pass the frame.
+    let mut over = assemble("JMI 0ff7");
+    over.resize(ADMIT_LIMIT - PASSES.len(), STA);
+    over.extend(PASSES);
+    // Every byte is reached.
+    let mut straight = assemble("LIT 01");
+    let end = assemble("LIT f2 DEO BRK");
+    straight.resize(ADMIT_LIMIT - end.len(), INC);
+    straight.extend(end);
+    for mut code in [over, straight] {
+        assert_eq!(code.len(), ADMIT_LIMIT);
+        let rom = file(&folder, "program.rom", &code);
+        assert_eq!(lines_of(&rom, &records), "pass\n");
+        code[ADMIT_LIMIT - 1] = POP;
+        let rom = file(&folder, "program.rom", &code);
+        assert_eq!(lines_of(&rom, &records), "refused 11\n");
+    }
+}
+
+/// BRK with the last step of the budget is BRK, and one step later it is not reached.
+#[test]
+fn the_budget_of_a_frame() {
+    let folder = folder("the_budget_of_a_frame");
+    let records = file(&folder, "records.bin", &record(0, &[]));
+    for (more, line) in [(0, "pass\n"), (1, "spent\n")] {
+        // 1,998 turns of five steps, six others, and one for each JMI.
+        let mut code = assemble("JMI 0000").repeat(4 + more);
+        code.extend(assemble(
+            "LIT2 07ce @turn LIT2 0001 SUB2 DUP2 ORA JCI =turn
+            POP2 LIT 01 LIT f2 DEO BRK",
+        ));
+        let rom = file(&folder, "program.rom", &code);
+        assert_eq!(lines_of(&rom, &records), line);
+        let mut pair = Pair::new(0);
+        pair.load(&code);
+        let steps = pair.frame(&record(0, &[]), 2 * BUDGET).steps;
+        assert_eq!(steps as usize, BUDGET as usize + more);
+    }
 }
 
 #[test]
@@ -330,16 +404,75 @@ fn ten_megabytes_of_records() {
     assert!(time < PATIENCE, "too slow: {time:?}");
 }
 
-// frames: beside the second machine
+// frames: admission
 
+/// C-15: "a filter goes in only if admitted". Each of these passes the frame where it runs, for its
+/// verdict comes before what is wrong.
+#[test]
+fn no_program_runs_that_is_not_admitted() {
+    let folder = folder("no_program_runs_that_is_not_admitted");
+    let frame = record(5, &[1]);
+    let records = file(&folder, "records.bin", &frame);
+    let line = |code: &[u8]| lines_of(&file(&folder, "program.rom", code), &records);
+    let mut wrong = vec![
+        [climb(255, 0), assemble("DUP BRK")].concat(),
+        [climb(0, 254), assemble("JSI 0000 BRK")].concat(),
+    ];
+    for byte in forbidden_bytes() {
+        let mut code = assemble("LIT2 0000 LIT2 0000 LIT2r 0000 LIT2r 0000");
+        code.extend([byte, BRK]);
+        wrong.push(code);
+    }
+    wrong.extend(
+        [
+            "LIT",
+            "POP BRK",
+            "POPr BRK",
+            "JSI 0001 BRK POP2r BRK",
+            "JMI 0000",
+            "LIT 00 JCI =end LIT 00 @end BRK",
+            "LIT2r 0000 JMP2r",
+            "JSI 0001 BRK LITr 00 JMP2r",
+            "LIT2 0000 JSI =sub BRK @sub JCI =less JMP2r @less POP JMP2r",
+        ]
+        .map(assemble),
+    );
+    let verdict = assemble("LIT 01 LIT f2 DEO");
+    let mut told = BTreeSet::new();
+    let mut pair = Pair::new(0);
+    for code in wrong {
+        let reached = [&verdict[..], &code].concat();
+        assert_eq!(line(&reached), "refused 11\n", "{code:02x?}");
+        told.insert(library::explain(&reached).rule);
+        // The plain load takes it.
+        pair.load(&reached);
+        let reply = pair.frame(&frame, BUDGET);
+        assert_eq!((reply.answer, reply.verdict), (BROKE, 1), "{code:02x?}");
+        let not_reached = [&verdict[..], &[BRK], &code].concat();
+        assert_eq!(line(&not_reached), "pass\n", "{code:02x?}");
+    }
+    let every: BTreeSet<u8> = (1..=RULES.len() as u8).collect();
+    assert_eq!(told, every, "the rules that are broken");
+}
+
+/// The lines of those that are admitted are those of the second machine, the others are refused as the
+/// second admission refuses them.
 #[test]
 fn lines_of_random_programs_and_records() {
     let folder = folder("lines_of_random_programs_and_records");
     let mut random = Random::new(seed());
-    let mut seen = [0; 4];
-    for turn in 0..150 {
-        let length = 1 + random.below(1_500);
-        let mut code = either(&mut random, turn, length, true);
+    let words = ["pass", "drop", "spent", "refused 8", "refused 11"];
+    let mut seen = [0; 5];
+    for turn in 0..300 {
+        let length = any_length(&mut random, 1_500);
+        let mut code = match turn % 4 {
+            0 => either(&mut random, turn / 4, length, true),
+            1 => {
+                let codes = of_every_kind(&mut random, turn / 4);
+                codes[random.below(codes.len())].clone()
+            }
+            _ => filter(&mut random, length),
+        };
         if turn % 2 == 0 {
             // A verdict that hangs on the data: the first data byte goes to port F2.
             let mut with_verdict = assemble("LIT 82 LDZ LIT f2 DEO");
@@ -361,16 +494,18 @@ fn lines_of_random_programs_and_records() {
             "seed {}, turn {turn}",
             seed()
         );
-        for (place, word) in ["pass", "drop", "spent", "refused 8"].iter().enumerate() {
-            seen[place] += lines.lines().filter(|line| line == word).count();
+        for (seen, word) in seen.iter_mut().zip(words) {
+            *seen += lines.lines().filter(|line| *line == word).count();
         }
     }
     assert!(
         seen.iter().all(|&count| count > 50),
-        "pass, drop, spent, refused 8: {seen:?}"
+        "{}: {seen:?}",
+        words.join(", ")
     );
     say(&format!(
-        "frames beside the second machine: pass, drop, spent, refused 8: {seen:?}"
+        "frames beside the second machine: {}: {seen:?}",
+        words.join(", ")
     ));
 }
 
@@ -379,15 +514,20 @@ fn lines_of_random_programs_and_records() {
 #[test]
 fn a_program_in_pieces() {
     let records = example("records.bin");
-    let filter = fs::read(example("filter.rom")).unwrap();
-    let output = run_in_pieces(
-        frames().arg(STDIN).arg(&records),
-        &filter,
-        1,
-        Duration::from_millis(1),
-    );
-    let expected = expected_frames(&filter, &fs::read(&records).unwrap(), &records);
-    assert_written(&output, &expected, "a program in pieces");
+    let bytes = fs::read(&records).unwrap();
+    let mut longest = PASSES.to_vec();
+    longest.resize(ADMIT_LIMIT, BRK);
+    let mut codes = vec![fs::read(example("filter.rom")).unwrap(), longest];
+    codes.extend(refusals().map(|(code, _)| code));
+    for code in codes {
+        let expected = expected_frames(&code, &bytes, &records);
+        let mut command = frames();
+        command.arg(STDIN).arg(&records);
+        let pause = Duration::from_micros(500);
+        let output = run_in_pieces(&mut command, &code, 1 + code.len() / 60, pause);
+        let what = format_args!("a program of {} bytes in pieces", code.len());
+        assert_written(&output, &expected, what);
+    }
 }
 
 #[test]
@@ -458,21 +598,24 @@ fn descriptors_that_are_closed() {
     let bytes = [0; 3 * RECORD + 5];
     let passes = file(&folder, "passes.rom", &PASSES);
     let records = file(&folder, "records.bin", &bytes);
-    let all = || expected_frames(&PASSES, &bytes, &records);
-    let unsaid = || Written::only_out(all().out);
+    let not_admitted = file(&folder, "refused.rom", &REFUSED);
     let unwritten = || Written::failed(OUTPUT, NOT_OPEN);
     let nothing = || Written::only_out("");
-    for (closed, expected) in [
-        ("exec <&-", all()),
-        ("exec 2>&-", unsaid()),
-        ("exec <&- 2>&-", unsaid()),
-        ("exec >&-", unwritten()),
-        ("exec <&- >&-", unwritten()),
-        ("exec >&- 2>&-", nothing()),
-        ("exec <&- >&- 2>&-", nothing()),
-    ] {
-        let mut command = after(closed, "frames");
-        assert_writes(command.arg(&passes).arg(&records), &[], &expected);
+    for (rom, code) in [(&passes, &PASSES[..]), (&not_admitted, &REFUSED)] {
+        let all = || expected_frames(code, &bytes, &records);
+        let unsaid = || Written::only_out(all().out);
+        for (closed, expected) in [
+            ("exec <&-", all()),
+            ("exec 2>&-", unsaid()),
+            ("exec <&- 2>&-", unsaid()),
+            ("exec >&-", unwritten()),
+            ("exec <&- >&-", unwritten()),
+            ("exec >&- 2>&-", nothing()),
+            ("exec <&- >&- 2>&-", nothing()),
+        ] {
+            let mut command = after(closed, "frames");
+            assert_writes(command.arg(rom).arg(&records), &[], &expected);
+        }
     }
     assert_eq!(fs::read(&passes).unwrap(), PASSES);
     assert_eq!(fs::read(&records).unwrap(), bytes);
@@ -557,6 +700,19 @@ fn a_read_that_fails() {
             assert_writes(command.arg(&passes).arg(&records), &[], expected);
         }
     }
+    // A refused program is read to its end, or as far as tells that it is too long, and nothing else is.
+    let records = file(&folder, "records.bin", &[0; RECORD]);
+    for ((code, line), reads) in refusals().into_iter().zip([1, 1, 2]) {
+        let rom = file(&folder, "refused.rom", &code);
+        for read in 1..=reads + 2 {
+            let expected = match read <= reads {
+                true => Written::failed(&rom, NOT_READ),
+                false => Written::only_out(line),
+            };
+            let mut command = failing(frames(), read);
+            assert_writes(command.arg(&rom).arg(&records), &[], &expected);
+        }
+    }
     for code in [&PASSES[..], &REFUSED] {
         let both = [
             (sheet as fn() -> Command, expected_sheet(code)),
@@ -633,9 +789,14 @@ fn little_memory() {
     deep.extend(assemble("JSI 0001 JMP2r").repeat(126));
     deep.push(JMP2R);
     assert_eq!(expected_explained(&deep).out, b"admitted\n");
+    let one = file(&folder, "one.bin", &[0; RECORD]);
     for code in [&PASSES[..], &REFUSED, &deep, &vec![DUP; ADMIT_LIMIT]] {
         let mut command = after("ulimit -v 16384 && ulimit -s 128", "explain");
         assert_writes(&mut command, code, &expected_explained(code));
+        let rom = file(&folder, "program.rom", code);
+        let mut command = after("ulimit -v 16384 && ulimit -s 512", "frames");
+        let expected = expected_frames(code, &[0; RECORD], &one);
+        assert_writes(command.arg(&rom).arg(&one), &[], &expected);
     }
     // Records of zeros are good ones in both forms; with one byte more they are none.
     for (more, conversion) in [WIDEN, NARROW]
@@ -706,11 +867,13 @@ fn assert_gives_up(rom: &Path, records: &Path, output: Stdio, reason: &str) {
 fn a_full_device() {
     let folder = folder("a_full_device");
     let passes = file(&folder, "passes.rom", &PASSES);
-    let empty = file(&folder, "empty.rom", &[]);
     let records = file(&folder, "records.bin", &[0; RECORD + 40]);
-    for rom in [&passes, &empty] {
+    let mut codes = vec![PASSES.to_vec()];
+    codes.extend(refusals().map(|(code, _)| code));
+    for code in codes {
+        let rom = file(&folder, "program.rom", &code);
         for records in [Path::new("/dev/zero"), &records] {
-            assert_gives_up(rom, records, full(), NO_SPACE);
+            assert_gives_up(&rom, records, full(), NO_SPACE);
         }
     }
     // There is no line to be written.
@@ -806,9 +969,6 @@ fn the_example_is_admitted() {
 }
 
 // sheet
-
-/// LIT without its operand: not the whole instruction lies in the program.
-const REFUSED: [u8; 1] = [0x80];
 
 /// The sheet of document 01, in records of 8 bytes by C-19.
 const PASSES_SHEET: [u8; 48] = [
@@ -1075,9 +1235,8 @@ fn explain_says_what_it_can_not_read_or_write() {
     }
 }
 
-/// Programs of every kind, and more of those that come to the ends of the depths or have one fault:
-/// the line is that of the reason which the call gives, and every rule is among them. The reason is
-/// held to be true, and the number is that of the second admission.
+/// Programs of every kind: the line is that of the reason which the call gives, and every rule is among
+/// them. The reason is held to be true, and the number is that of the second admission.
 #[test]
 fn lines_beside_the_call() {
     let mut admissions = Admissions::new(seed());
@@ -1090,15 +1249,9 @@ fn lines_beside_the_call() {
         lines += 1;
     };
     for turn in 0..800 {
-        let length = any_length(&mut random, ADMIT_LIMIT + 1);
-        both(&any(&mut random, turn, length));
-        let [working, ret] = [(); 2].map(|()| random.choose(&[0, 1, 5, 250, 254, 255]));
-        let mut code = climb(working, ret);
-        let length = 1 + random.below(40);
-        code.extend(likely_bytes(&mut random, length));
-        both(&code);
-        let fault = FAULTS[turn % FAULTS.len()];
-        both(&broken(&mut random, ROOM_FOR_A_FAULT, fault));
+        for code in of_every_kind(&mut random, turn) {
+            both(&code);
+        }
     }
     for (name, told) in admissions.told() {
         assert!(told >= 5, "{told} {name}");
@@ -1248,9 +1401,11 @@ fn valgrind_has_nothing_to_say() {
         watched_explain(&calling()),
         watched_help("explain"),
     ];
-    for (turn, length) in [(0, PROGRAM_LIMIT), (1, 1), (0, PROGRAM_LIMIT + 1)] {
-        let code = either(&mut random, turn, length, true);
-        let rom = file(&folder, &format!("{turn}-{length}.rom"), &code);
+    let longest = filter(&mut random, ADMIT_LIMIT);
+    let mut codes = vec![vec![BRK], longest, vec![DUP; ADMIT_LIMIT]];
+    codes.extend(refusals().map(|(code, _)| code));
+    for (place, code) in codes.iter().enumerate() {
+        let rom = file(&folder, &format!("{place}.rom"), code);
         runs.push(watched_frames(&rom, &few));
     }
     for (turn, length) in [(0, 2_000), (2, ADMIT_LIMIT), (0, ADMIT_LIMIT + 1)] {
