@@ -24,7 +24,7 @@ use uxn_filter_harness::linked::{
     random_record, said_at_end, same, sheet, signal, Written, BLOCK, INPUT, IS_FOLDER, NOT_READ,
     NO_FILE, NO_READER, NO_SPACE, OUTPUT, SIGPIPE,
 };
-use uxn_filter_harness::programs::{either, random_bytes};
+use uxn_filter_harness::programs::either;
 use uxn_filter_harness::random::Random;
 use uxn_filter_harness::soak::rounds;
 
@@ -38,6 +38,7 @@ const IGNORE_SIGNAL: &str = "trap '' PIPE";
 #[derive(Default)]
 struct Total {
     frames: u64,
+    refused: u64,
     lines: u64,
     records: u64,
     parts: u64,
@@ -54,6 +55,7 @@ impl Total {
     fn text(&self) -> String {
         let Total {
             frames,
+            refused,
             lines,
             records,
             parts,
@@ -67,8 +69,8 @@ impl Total {
         } = self;
         let megabytes = records / 1_000_000;
         format!(
-            "{frames} runs of frames with {lines} lines from {megabytes} MB of records ({huge} huge files, \
-             {parts} with a part record at the end), \
+            "{frames} runs of frames, {refused} with a program that is refused, with {lines} lines from \
+             {megabytes} MB of records ({huge} huge files, {parts} with a part record at the end), \
              {sheets} runs of sheet with {admitted} admitted, {wrong} with something that can not be read, \
              {left} with a reader that left, {full} on a full device, {stopped} stopped for a while"
         )
@@ -389,19 +391,24 @@ fn any_program(random: &mut Random) -> (Vec<u8>, bool) {
     let code = match random.below(14) {
         0 => Vec::new(),
         1 => {
-            let length = PROGRAM_LIMIT - 4 + random.below(8);
-            random_bytes(random, length, true)
+            // After BRK nothing is reached.
+            let mut code = vec![0; ADMIT_LIMIT - 4 + random.below(8)];
+            random.fill(&mut code[1..]);
+            code
         }
-        2 => vec![0; PROGRAM_LIMIT + 1 + random.below(200_000)],
-        3..=4 => {
+        2 => vec![0; ADMIT_LIMIT + 1 + random.below(200_000)],
+        3 => {
             let length = any_length(random, PROGRAM_LIMIT);
             either(random, turn, length, true)
         }
-        5..=6 => {
+        4..=6 => {
             // A verdict that hangs on the data.
             let mut code = assemble("LIT 82 LDZ LIT f2 DEO");
-            let length = any_length(random, 1_500);
-            code.append(&mut either(random, turn, length, true));
+            let length = any_length(random, ADMIT_LIMIT);
+            code.append(&mut match turn % 4 {
+                0 => either(random, turn, length, true),
+                _ => filter(random, length),
+            });
             code
         }
         7..=9 => {
@@ -487,6 +494,7 @@ fn frames_run(seed: u64, folder: &Path, total: &mut Total, huge: bool) {
         bytes = vec![0; RECORD * 1_000];
     }
     let out = expected_lines(&code, &bytes).into_bytes();
+    let refused = expected_sheet(&code).out.is_empty();
     let mut sink = Sink::any(random, out.len());
     if endless {
         sink = match random.below(3) {
@@ -511,7 +519,6 @@ fn frames_run(seed: u64, folder: &Path, total: &mut Total, huge: bool) {
     if !endless && !huge && random.one_in(8) {
         let (path, reason, opens) = unreadable(random, folder);
         let failed = Written::failed(&path, reason);
-        let refused = code.is_empty() || code.len() > PROGRAM_LIMIT;
         if random.one_in(2) {
             program_path = path;
             wrong = Some(failed);
@@ -529,6 +536,7 @@ fn frames_run(seed: u64, folder: &Path, total: &mut Total, huge: bool) {
     });
     run.command.arg(program_path).arg(records_path);
     total.frames += 1;
+    total.refused += u64::from(refused);
     total.huge += u64::from(huge);
     total.records += bytes.len() as u64;
     total.lines += written.out.iter().filter(|byte| **byte == b'\n').count() as u64;
