@@ -1,14 +1,14 @@
 -- The number of an install and the sheet that it leaves; then what it replies. Assumes nothing.
 use mathlib.Core.Path.{_≡_, refl, sym, ap, _∙_}
 use mathlib.Core.Bool.{Bool, true, false}
-use mathlib.Core.List.{List, _∷_, _++_}
+use mathlib.Core.List.{List, _∷_}
 use Prim.Native.Nat.{ℕ, zero, suc, _≤_}
 use native.Mathlib.Omega.{arith}
 use borrow.Author.Tests.{ne-eqb}
 use Rattle.model.specs.Machine.{State}
 use Rattle.model.specs.Run.{reply}
 use Rattle.model.specs.Run.Answer.{Refused, Loaded}
-use Rattle.model.specs.Calls.{Row, refusal, bufferRows, numberOf, unless, load, loadCall, admitRows, admitBy, admitCall, AdmitResult, installRows, installBy, installCall}
+use Rattle.model.specs.Calls.{Row, refusal, bufferRows, numberOf, load, loadCall, admitRows, admitBy, admitCall, AdmitResult, installRows, installBy, installCall}
 use Rattle.model.specs.Replies.{ofAdmit}
 use Rattle.model.specs.declared.AdmitReply.{AdmitReply}
 use Rattle.model.specs.declared.Machine.{Machine}

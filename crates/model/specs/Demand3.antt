@@ -100,10 +100,10 @@ handedBack c s t =
 abbrev pub called : Call → State → State
 called c s = given c (filled c s)
 
--- what it leaves of what it gets
-abbrev pub left : Request → State → State
-left (frame bytes areBytes budget) s = frameCall bytes budget s .state
-left (install program sheet) s = installCall program sheet s .reply .state
+-- the state that it leaves, of the one that it gets
+abbrev pub leaves : Request → State → State
+leaves (frame bytes areBytes budget) s = frameCall bytes budget s .state
+leaves (install program sheet) s = installCall program sheet s .reply .state
 
 -- the states before each of its steps; an install takes none
 abbrev pub traced : Request → State → List State
@@ -112,7 +112,7 @@ traced (install program sheet) s = []
 
 -- the machine after the call
 abbrev pub next : Call → State → State
-next c s = handedBack c (filled c s) (left (c .request) (called c s))
+next c s = handedBack c (filled c s) (leaves (c .request) (called c s))
 
 -- C-15: "allows refused calls of this kind": an install stands in the list only if it is refused
 abbrev pub Stands : Request → State → Type 0
