@@ -1,4 +1,4 @@
-//! C programs that are built with `include/uxn_filter.h` and the library, and what programs print.
+//! C programs that are built with the headers of `include` and the library, and what programs print.
 
 use std::path::{Path, PathBuf};
 use std::process::Command;
