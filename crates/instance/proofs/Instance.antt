@@ -97,10 +97,10 @@ calls =
     ∷ call empty own none own none  -- no device page and no return stack
     ∷ plain (install [] [])  -- C-15: an install of no program
     ∷ plain (install (zeros (admitMost + 1)) [])  -- of one above 4,096 bytes
-    ∷ plain (install (0x00 ∷ []) (zeros 7))  -- with a sheet of 7 bytes
-    ∷ plain (install (0x02 ∷ 0x00 ∷ []) (zeros 16))  -- of one that pops from an empty stack
-    ∷ call (install (0x00 ∷ []) (zeros 8)) own own own (other (zeros 255) tt)  -- of a good one, with a return stack of 255 bytes
-    ∷ call (install [] []) own (other (zeros 256) tt) own own  -- with another device page, of the right length
+    ∷ plain (install (0x00 ∷ []) (replicate 7 5))  -- with a sheet of 7 bytes
+    ∷ plain (install (0x02 ∷ 0x00 ∷ []) (replicate 16 5))  -- of one that pops from an empty stack
+    ∷ call (install (0x00 ∷ []) (replicate 8 5)) own own own (other (zeros 255) tt)  -- of a good one, with a return stack of 255 bytes
+    ∷ call (install [] (5 ∷ [])) own (other (zeros 256) tt) own own  -- with another device page, of the right length
     ∷ plain (judge (frameRecord 0 []) tt 0)  -- budget 0
     ∷ plain (judge (frameRecord 2 (0x05 ∷ 0x06 ∷ [])) tt 20)  -- a budget that ends in the loop
     ∷ plain (judge (frameRecord 2 (0x05 ∷ 0x06 ∷ [])) tt 100)  -- checksum 3
@@ -146,6 +146,16 @@ pub answers : replies (start .reply .state) calls
     ∷ (Spent, 0, 0) ∷ (Spent, 20, 0) ∷ (Broke, 35, 0) ∷ []
 unfolding calls filling filter used filled given handedBack calling
 answers = refl
+
+-- ---- C-15: what its installs leave of the sheets that they are lent: with 11 zeros, with another number what was there
+
+abbrev pub sheetsAfter : State → List Call → List (List ℕ)
+sheetsAfter s [] = []
+sheetsAfter s (c ∷ cs) = elim (c .request) [ frame bytes areBytes budget ↦ sheetsAfter (next c s) cs | install program sheet ↦ installCall program sheet (called c s) .sheet ∷ sheetsAfter (next c s) cs ]
+
+pub sheets-left : sheetsAfter (start .reply .state) calls ≡ [] ∷ [] ∷ replicate 7 5 ∷ zeros 16 ∷ replicate 8 5 ∷ (5 ∷ []) ∷ []
+unfolding calls filling filter used filled given handedBack calling
+sheets-left = refl
 
 -- ---- C-20: the high marks after each of them: a refused call leaves them, a frame call sets them to 0 first
 
