@@ -1,4 +1,6 @@
 // Admission of a program: the addresses that are reached from 0100 are marked in the sheet, each once, by a worklist.
+#![tactic(auto)]
+
 ghost use Rattle.std.specs.Prelude.{◌≡◌, ◌||◌, ◌+◌, ◌-◌, ◌*◌, ◌≤◌, ◌<◌, eqb, ltb, length, get_or, replicate};
 ghost use Rattle.model.specs.Machine.{start};
 ghost use Rattle.model.specs.Instruction.{returning, taken_from, RowTable};
@@ -43,7 +45,7 @@ fn unmark(program: &[u8], sheet: &mut [u8])
 
 // What the rules say of the instruction at place i by itself, with the depths of its record: this one fails; or the place after it, and
 // the depths after it.
-#[derive(Drop)]
+#[derive(Clone, Copy)]
 enum Depths {
     Fails(Rule),
     After(usize, u8, u8),
@@ -137,7 +139,7 @@ fn of_routines(byte: u8) -> bool
 
 // How a walk ends: a rule fails, as in `Next`; or at this place of the queue, where a call or a return is next, or nothing, with so many
 // addresses in the queue.
-#[derive(Drop)]
+#[derive(Clone, Copy)]
 enum Stop {
     Refuted(usize),
     At(usize, usize),

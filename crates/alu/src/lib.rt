@@ -1,4 +1,6 @@
 // Arithmetic, comparison, shift and jump addresses: numbers in, number out.
+#![tactic(auto)]
+
 ghost use Rattle.std.specs.Prelude.{◌≡◌, ◌*◌, ◌%◌, if◌then◌else◌, nat_lt};
 ghost use Rattle.model.specs.Instruction.{size};
 ghost use Rattle.model.specs.Instruction.Arithmetic.{DIV};

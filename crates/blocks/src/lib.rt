@@ -1,5 +1,7 @@
 // The work of the program `frames`, without its input and output: the install with its line, and frame calls with their lines for
 // the records of a block.
+#![tactic(auto)]
+
 ghost use Rattle.std.specs.Prelude.{◌≡◌, ◌++◌, ◌*◌, ◌/◌, ◌-◌, ◌≤◌, ◌<◌, length, take, drop};
 ghost use Rattle.model.specs.Machine.{State, state};
 ghost use Rattle.model.specs.Calls.{frame_size, install_call};
@@ -22,14 +24,14 @@ const RECORD: usize = 128;
 const SHEET_RECORD: usize = 8;
 
 // The machine record afterwards, and how many bytes of lines there are.
-#[derive(Drop)]
+#[derive(Clone, Copy)]
 pub struct Done {
     pub machine: Machine,
     pub written: usize,
 }
 
 // The machine record after a block, how many bytes of lines there are, and how many bytes wait at the start of the block.
-#[derive(Drop)]
+#[derive(Clone, Copy)]
 pub struct Worked {
     pub machine: Machine,
     pub written: usize,

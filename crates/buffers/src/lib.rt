@@ -1,4 +1,6 @@
 // What load and frame write to memory, device page and stacks.
+#![tactic(auto)]
+
 ghost use Rattle.std.specs.Prelude.{◌≡◌, ◌++◌, ◌+◌, ◌-◌, ◌≤◌, length, get_or, set, take, drop};
 ghost use Rattle.model.specs.Bytes.{zeros};
 ghost use Rattle.model.specs.Machine.{memory_size, page_size, stack_size, state};

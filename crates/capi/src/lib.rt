@@ -1,5 +1,7 @@
 // The calls as a static library for C: include/uxn_filter.h declares them, and says what each number means; include/uxn_bench.h declares
 // the plain load.
+#![tactic(auto)]
+
 ghost use Rattle.std.specs.Prelude.{◌≡◌};
 ghost use Rattle.model.specs.Machine.{state};
 ghost use Rattle.model.specs.Calls.{load_call, step_call, run_call, event_call, frame_call, admit_call, install_call};

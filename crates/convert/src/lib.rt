@@ -1,5 +1,7 @@
 // The work of the programs `widen` and `narrow`: a file of frame records to the other form, of any length. A first pass over the file looks
 // for refusals and writes nothing, a second one writes.
+#![tactic(auto)]
+
 ghost use Rattle.std.specs.Prelude.{◌≡◌, length};
 ghost use Rattle.convert.specs.Passes.{PassOf};
 
@@ -9,7 +11,7 @@ use records::{Direction, take_block};
 
 // How a pass ended: the number that the file is refused with, or 0, and how many bytes it has; or a read or a write failed, and that is
 // said.
-#[derive(Drop)]
+#[derive(Clone, Copy)]
 pub enum Passed {
     Ended(u8, u64),
     Failed,

@@ -1,4 +1,6 @@
 // One instruction, the high marks after it, the ports that it writes, and a run, on buffers of the right lengths.
+#![tactic(auto)]
+
 ghost use Rattle.std.specs.Prelude.{◌≡◌, ℕ, ◌≤◌, List, length};
 ghost use Rattle.model.specs.Bytes.{places_ring};
 ghost use Rattle.model.specs.Bytes as bytes;
@@ -18,7 +20,7 @@ use transfers::port_of;
 
 // How a run ended, with the machine record afterwards and the part of the budget that is not spent: the loop counts down, and its
 // callers count the steps.
-#[derive(Drop)]
+#[derive(Clone, Copy)]
 pub enum End {
     Broke(Machine, u32),
     Spent(Machine),

@@ -1,4 +1,6 @@
 // The replies of the calls as C structs: include/uxn_filter.h declares them.
+#![tactic(auto)]
+
 ghost use Rattle.std.specs.Prelude.{◌≡◌, List, ℕ};
 ghost use Rattle.model.specs.Machine.{state};
 ghost use Rattle.model.specs.declared.StepReply.{StepReply};
@@ -60,7 +62,7 @@ const RETURNS_DIFFER: u8 = 12;
 // What a call replies: the machine record afterwards, the steps taken, the number of the refusal or 0, the answer, the verdict or 0, and
 // how many ports a step wrote, and which.
 #[repr(C)]
-#[derive(Drop)]
+#[derive(Clone, Copy)]
 pub struct Reply {
     pub machine: Machine,
     pub steps: u32,
@@ -74,7 +76,7 @@ pub struct Reply {
 // What a call that writes to a lent output replies: how many bytes it wrote, a line, which is 0 here, and the number of the
 // refusal or 0.
 #[repr(C)]
-#[derive(Drop)]
+#[derive(Clone, Copy)]
 pub struct Written {
     pub length: usize,
     pub line: u32,
@@ -84,7 +86,7 @@ pub struct Written {
 // Why a program is refused: the number of the refusal or 0; with 11 the rule that fails, the number that it speaks of, the place of the
 // instruction, where it goes on, and another place. What a rule does not have is 0.
 #[repr(C)]
-#[derive(Drop)]
+#[derive(Clone, Copy)]
 pub struct Why {
     pub number: u8,
     pub rule: u8,

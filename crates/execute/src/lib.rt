@@ -1,5 +1,7 @@
 // One instruction, by the low seven bits of its byte: below 40 its main stack is the working stack, from 40 on the return
 // stack; bit 7 is keep.
+#![tactic(auto)]
+
 ghost use Rattle.std.specs.Prelude.{◌≡◌, ◌<◌};
 ghost use Rattle.model.specs.Machine.{state, Sized};
 ghost use Rattle.operations.specs.After.{executed, byte_of};
@@ -13,7 +15,7 @@ use transfers::{dei, deo, jci, jcn, jmp, lda, ldr, ldz, lit, offset, port_of, st
 
 // What a step answers: it went on, or it was BRK. On buffers of the right lengths none is refused. One that went on has the first port that
 // it wrote, and how many, 0 to 2: BRK writes none.
-#[derive(Drop)]
+#[derive(Clone, Copy)]
 pub enum Stepped {
     WentOn(Machine, u16, u8),
     Broke(Machine),

@@ -1,4 +1,6 @@
 // explain: reads a program on standard input and writes one line: that it is admitted, or why it is refused.
+#![tactic(auto)]
+
 ghost use Rattle.std.specs.Prelude.{◌≤◌, length, take};
 ghost use Rattle.io.specs.Counts.{IsPrefixLen};
 ghost use Rattle.why.specs.Explained.{explain_most};

@@ -1,4 +1,6 @@
 // frames PROGRAM RECORDS: installs the program, makes a frame call for each whole record, and writes a line for each.
+#![tactic(auto)]
+
 mod stream;
 
 ghost use Rattle.std.specs.Prelude.{◌+◌, ◌≤◌, length};

@@ -1,4 +1,6 @@
 // Reading an input that may come in pieces, the argument that asks for help, and the message of a refusal.
+#![tactic(auto)]
+
 ghost use Rattle.std.specs.Prelude.{◌≡◌, ◌≤◌, length, take};
 ghost use Rattle.input.specs.Filled.{FilledTo};
 

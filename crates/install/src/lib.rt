@@ -1,5 +1,7 @@
 // C-15, "Load and admit become one": "a filter goes in only if admitted, its sheet written by the same call. If not, the old one
 // keeps running."
+#![tactic(auto)]
+
 ghost use Rattle.std.specs.Prelude.{◌≡◌};
 ghost use Rattle.model.specs.Machine.{state};
 ghost use Rattle.model.specs.declared.Machine.{Machine};

@@ -1,4 +1,6 @@
 // Document 01's load, of any program, admitted or not: for its cases and for tests. A filter goes in by `install`.
+#![tactic(auto)]
+
 ghost use Rattle.std.specs.Prelude.{◌≡◌};
 ghost use Rattle.model.specs.Machine.{state};
 ghost use Rattle.model.specs.Calls.{load_call};

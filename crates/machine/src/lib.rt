@@ -1,5 +1,7 @@
 // The public calls that run a machine: step, run, event and frame. Each takes the machine record by value and four lent
 // buffers of any length, and refuses first.
+#![tactic(auto)]
+
 ghost use Rattle.std.specs.Prelude.{◌≡◌};
 ghost use Rattle.model.specs.Machine.{state};
 ghost use Rattle.model.specs.Calls.{step_call, run_call, event_call, frame_call};

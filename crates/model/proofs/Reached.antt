@@ -39,10 +39,31 @@ grows_trans (same g) (same h) = same (grows_trans g h)
 grows_trans (same g) (more h) = more (grows_trans g h)
 grows_trans (more g) (same h) = more (grows_trans g h)
 
+-- what is so of the first marks and of those after them
+Parted : List Mark → List Mark → Type 0
+Parted [] [] = Unit {0}
+Parted [] (b ∷ y) = ⊥
+Parted (a ∷ x) [] = ⊥
+Parted (a ∷ x) (b ∷ y) = Grows x y × ((a ≡ b) ⊎ (a ≡ unmarked))
+
+parted : {x y : List Mark} → Grows x y → Parted x y
+unfolding Parted
+parted none = tt
+parted (same g) = (g, inl refl)
+parted (more g) = (g, inr refl)
+
 -- both ways: the same marks
+squeezed_lists : (x y : List Mark) → Grows x y → Grows y x → y ≡ x
+unfolding Parted
+squeezed_lists [] [] g h = refl
+squeezed_lists [] (b ∷ y) g h = absurd (parted g)
+squeezed_lists (a ∷ x) [] g h = absurd (parted g)
+squeezed_lists (a ∷ x) (b ∷ y) g h =
+    let first : b ≡ a = elim (parted g).1 [ inl e ↦ sym e | inr e ↦ elim (parted h).1 [ inl d ↦ d | inr d ↦ d ∙ sym e ] ] in
+    rw first (ap (λ (l : List Mark). a ∷ l) (squeezed_lists x y (parted g).0 (parted h).0))
+
 squeezed : {x y : List Mark} → Grows x y → Grows y x → y ≡ x
-squeezed none none = refl
-squeezed (same {a = a} g) (same h) = ap (λ l. a ∷ l) (squeezed g h)
+squeezed {x = x} {y = y} g h = squeezed_lists x y g h
 
 grows_length : {x y : List Mark} → Grows x y → length y ≡ length x
 grows_length none = refl

@@ -1,4 +1,6 @@
 // The two moves of a sheet: from four bytes a record to eight, and back.
+#![tactic(auto)]
+
 ghost use Rattle.std.specs.Prelude.{◌≡◌, cond, not, ◌++◌, ◌%◌, ◌≤◌, eqb, length, drop};
 ghost use Rattle.model.specs.Calls.{all_zero};
 ghost use Rattle.model.specs.Admission.{sheet_record};

@@ -1,4 +1,6 @@
 // narrow FILE: writes the frame records of the file in the old form, or nothing if it is refused.
+#![tactic(auto)]
+
 use convert::convert;
 use input::asks_for_help;
 use libc::{STDERR_FILENO, STDOUT_FILENO};

@@ -1,4 +1,6 @@
 // The operations that need their main stack alone, in both widths, with keep as a flag.
+#![tactic(auto)]
+
 ghost use Rattle.std.specs.Prelude.{◌≡◌, [], length};
 ghost use Rattle.alu.specs.Numbers.{arithmetic_at, comparison_at};
 ghost use Rattle.model.specs.Machine.{stack_size, stack};

@@ -1,4 +1,6 @@
 // Why a program is refused with 11: the reason, from the rule that fails and the place where it does, as the worklist left them.
+#![tactic(auto)]
+
 ghost use Rattle.std.specs.Prelude.{◌≡◌, ◌+◌, ◌*◌, ◌≤◌, ◌<◌, length};
 ghost use Rattle.model.specs.Instruction.{working, returning, taken_from, RowTable};
 ghost use Rattle.model.specs.Admission.{admit_most, depth_after, sheet_record};

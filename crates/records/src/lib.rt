@@ -1,4 +1,6 @@
 // The two moves of a file of frame records: from 64 bytes a record to 128, and back.
+#![tactic(auto)]
+
 ghost use Rattle.std.specs.Prelude.{◌≡◌, ◌||◌, ◌++◌, ◌+◌, ◌*◌, ◌%◌, ◌≤◌, ◌<◌, min, eqb, length, get_or, take, drop};
 ghost use Rattle.model.specs.Moves.{records_of, some_record, each_record};
 ghost use Rattle.model.specs.RecordMoves.{old_form, new_form, broken, too_long, fitted, move_call, widen_records, narrow_records};
@@ -136,14 +138,14 @@ pub fn narrow_records(new: &[u8], output: &mut [u8]) -> WriteReply
 // ---- a file of any length, block by block
 
 // From the old form to the new one, or back.
-#[derive(Drop)]
+#[derive(Clone, Copy)]
 pub enum Direction {
     Widen,
     Narrow,
 }
 
 // The number that the file is refused with so far, or 0, and how many bytes of the block in the other form there are.
-#[derive(Drop)]
+#[derive(Clone, Copy)]
 pub struct BlockMoved {
     pub number: u8,
     pub written: usize,

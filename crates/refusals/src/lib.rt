@@ -1,4 +1,6 @@
 // The tests behind the numbered replies: the number, or 0 where no row of the call says so.
+#![tactic(auto)]
+
 ghost use Rattle.std.specs.Prelude.{◌≡◌, ◌+◌, ◌≤◌, length};
 ghost use Rattle.model.specs.Machine.{state};
 ghost use Rattle.model.specs.Calls.{refusal, buffer_rows, load_rows, event_rows, well_formed, frame_rows};

@@ -1,5 +1,7 @@
 // The replies of step, run, event and frame, from the end of the run that they make. A step and a frame watch nothing, and theirs is
 // never Paused.
+#![tactic(auto)]
+
 ghost use Rattle.std.specs.Prelude.{◌≡◌, ◌≤◌};
 ghost use Rattle.cpu.specs.Ended.{unspent};
 ghost use Rattle.replies.specs.FromRun.{step_of, run_of, event_of, frame_of};

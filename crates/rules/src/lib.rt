@@ -1,4 +1,6 @@
 // Admission's rules at one instruction: which are allowed, the depths after it, and where it jumps.
+#![tactic(auto)]
+
 ghost use Rattle.std.specs.Prelude.{◌≡◌, ◌+◌, ◌-◌, ◌<◌, ◌≤◌, not, length, if◌then◌else◌, nat_lt};
 ghost use Rattle.model.specs.Machine.{start};
 ghost use Rattle.model.specs.Instruction.{keep_mode, returning, taken_from, length_of, RowTable};

@@ -1,4 +1,6 @@
 // sheet: reads a program on standard input and writes its depth sheet as plain bytes, or nothing if it is refused.
+#![tactic(auto)]
+
 ghost use Rattle.std.specs.Prelude.{◌≡◌, ◌*◌, ◌≤◌, length, take};
 ghost use Rattle.io.specs.Counts.{IsPrefixLen};
 ghost use Rattle.model.specs.Admission.{sheet_record};
@@ -13,7 +15,7 @@ use model::AdmitReply;
 const RECORD: usize = 8;
 
 // How many bytes of the sheet are to be written, and the number of the refusal, or 0.
-#[derive(Drop)]
+#[derive(Clone, Copy)]
 struct Made {
     bytes: usize,
     number: u8,

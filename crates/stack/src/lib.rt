@@ -1,4 +1,6 @@
 // Stacks, whose pointers go round, and numbers of one or two bytes in memory and device page.
+#![tactic(auto)]
+
 ghost use Rattle.std.specs.Prelude.{◌≡◌, ◌+◌, ◌*◌, ◌/◌, ◌%◌, ◌<◌, ◌≤◌, [], ◌∷◌, length, if◌then◌else◌, slice_index, slice_set};
 ghost use Rattle.model.specs.Bytes.{word, number, read_ring, write_ring};
 ghost use Rattle.model.specs.Machine.{memory_size, page_size, stack_size, stack, pushed, operands, lowered};

@@ -1,4 +1,6 @@
 // The table of operand and result bytes: the whole of it, and one entry.
+#![tactic(auto)]
+
 use crate::rows::ROWS;
 
 mod rows;

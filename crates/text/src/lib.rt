@@ -1,4 +1,6 @@
 // The line of a reply: "pass", "drop", "spent", or "refused" with a space and the number.
+#![tactic(auto)]
+
 ghost use Rattle.std.specs.Prelude.{◌≡◌, ◌++◌, ◌+◌, ◌≤◌, length, take};
 ghost use Rattle.model.specs.Machine.{State};
 ghost use Rattle.model.specs.Replies.{of_frame};

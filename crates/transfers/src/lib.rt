@@ -1,5 +1,7 @@
 // The operations that reach beyond their main stack: to memory, devices, the counter and the other stack; in both widths. Where a
 // contract gives memory, device page or the next address as empty or 0, the operation does not use it.
+#![tactic(auto)]
+
 ghost use Rattle.std.specs.Prelude.{◌≡◌, ◌+◌, ◌%◌, true, false, [], length};
 ghost use Rattle.model.specs.Bytes.{word, number, read_ring};
 ghost use Rattle.model.specs.Machine.{memory_size, page_size, stack_size, stack, pushed};

@@ -1,4 +1,6 @@
 // The line of the program `explain`: "admitted", "refused" and a number, or the reason of a refusal with 11.
+#![tactic(auto)]
+
 ghost use Rattle.std.specs.Prelude.{◌≡◌, ◌++◌, ◌+◌, ◌-◌, ◌≤◌, length, take};
 ghost use Rattle.model.specs.Machine.{start};
 ghost use Rattle.model.specs.Admission.{byte_at};

@@ -1,4 +1,6 @@
 // Words of a line: numbers, counts, addresses and the names of instructions.
+#![tactic(auto)]
+
 ghost use Rattle.std.specs.Prelude.{◌≡◌, ◌++◌, ◌+◌, ◌*◌, ◌%◌, ◌≤◌, length, take};
 ghost use Rattle.words.specs.Words.{hex_digit, hex, digits, count, letters, mode, name};
 

@@ -1,5 +1,7 @@
 // The worklist of an admission: an address that is reached is marked in the sheet and put into the queue; what a visit of a return,
 // a call or another instruction does.
+#![tactic(auto)]
+
 ghost use Rattle.std.specs.Prelude.{◌≡◌, ℕ, ◌+◌, ◌*◌, ◌-◌, ◌/◌, ◌%◌, ◌≤◌, ◌<◌, length, get_or, set};
 ghost use Rattle.model.specs.Machine.{start};
 ghost use Rattle.model.specs.Instruction.{length_of};
@@ -34,7 +36,7 @@ const RETURNED: u16 = 4097;
 // The rules, by what is found where one fails: the instruction is not allowed; it is cut off; a stack holds too few bytes for it, or too
 // many after it; it takes return bytes below the floor; the address after it, its target or, for a call, the address where its routine
 // returns to is outside the program or has another mark; a return is not at the floor, or another one has another working depth.
-#[derive(Drop)]
+#[derive(Clone, Copy)]
 pub enum Rule {
     Forbidden,
     Cut,
@@ -52,14 +54,14 @@ pub enum Rule {
 
 // How the worklist goes on: a rule fails, so that there is no assignment, and the number has the rule and where it fails (`refuted`); or
 // with this many addresses in the queue.
-#[derive(Drop)]
+#[derive(Clone, Copy)]
 pub enum Next {
     Refuted(usize),
     Queued(usize),
 }
 
 // An address that is reached is outside the program, or has another mark; or the queue has this many addresses now.
-#[derive(Drop)]
+#[derive(Clone, Copy)]
 enum Reached {
     Astray,
     Queued(usize),
