@@ -2,12 +2,8 @@
 use mathlib.Core.Path.{refl}
 use Rattle.model.proofs.Computing.{decoding}
 use Rattle.table.proofs.Rule.{by_test}
-use Rattle.table.proofs.table.Statement.{statement}
-use Rattle.table.proofs.table.Tie as tie
+use Rattle.table.proofs.table.Goals as goal
 
-returns : tie.Need-returns
+pub returns : goal.returns
 unfolding decoding
 returns c = by_test _ refl tt
-
-pub table-spec : {M : Type 1} → statement M
-table-spec = tie.close (tie.spec returns)
