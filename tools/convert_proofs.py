@@ -63,7 +63,7 @@ def declarations(text):
                 extra.append(lines[j])
                 j += 1
             start = j
-            while j < len(lines) and (lines[j].startswith((name + " ", "  ")) or (lines[j] == "" and j + 1 < len(lines) and lines[j + 1].startswith("  "))):
+            while j < len(lines) and (lines[j].startswith((name + " ", "  ", ")")) or (lines[j] == "" and j + 1 < len(lines) and lines[j + 1].startswith("  "))):
                 j += 1
             found[name] = (m.group(2), extra, "\n".join(lines[start:j]), (i, j))
             i = j
@@ -76,11 +76,14 @@ class Turn:
     def __init__(self, data):
         self.steps = {}
         self.clauses = {}
+        self.params = {}
         self.arms = {}
         for place, arm, clause in zip(data["places"], data["arms"], data["clauses"]):
             old, new = place[2]
             if old:
                 self.steps.setdefault(old, new)
+            if old and place[3] and data["params"].get(place[3]):
+                self.params[new] = data["params"][place[3]]
             if clause:
                 self.clauses[new] = clause["fields"]
             if arm:
@@ -100,6 +103,7 @@ class Turn:
         if not parts:
             return "c"
         first = parts[0].replace("-", "_") if not parts[0].startswith("loop") else parts[0]
+        first = {"type_size": "size_of", "well_formed_2": "well_formed2"}.get(first, first)
         if first in self.typed and len(parts) > 1 and parts[1] == "given":
             return ".".join(["c", "type_inv", self.typed[first]] + parts[2:])
         if first in ("args", "requires", "ranges", "lifetimes", "well_formed"):
@@ -115,6 +119,9 @@ class Turn:
                 return ".".join(["c", self.steps[first], "ensures", fields[0]] + rest)
             if rest and rest[0].isdigit():
                 return ".".join(["c", self.steps[first], "ensures", fields[int(rest[0])]] + rest[1:])
+        new = self.steps.get(first)
+        if new in self.params and parts[1] == "new" and len(parts) > 2 and parts[2].isdigit():
+            return ".".join(["c", new, "new", self.params[new][int(parts[2])]] + parts[3:])
         if first in self.steps:
             return ".".join(["c", self.steps[first]] + parts[1:])
         base = re.sub(r"-test$", "", first)

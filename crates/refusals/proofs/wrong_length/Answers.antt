@@ -1,0 +1,20 @@
+-- `refusals::wrong_length` meets its contract. Assumes nothing.
+use Rattle.refusals.proofs.Refusals as laws
+use Rattle.refusals.proofs.wrong_length.Goals as goal
+
+pub returns-then-memory-ne-MEMORY_SIZE : goal.returns-then-memory-ne-MEMORY_SIZE
+returns-then-memory-ne-MEMORY_SIZE c m = laws.memory_wrong _ c.if-memory-ne-MEMORY_SIZE.true
+
+pub returns-then-devices-ne-PAGE_SIZE : goal.returns-then-devices-ne-PAGE_SIZE
+returns-then-devices-ne-PAGE_SIZE c m = laws.devices_wrong _ c.if-memory-ne-MEMORY_SIZE.false c.if-devices-ne-PAGE_SIZE.true
+
+pub returns-then-work-ne-STACK_SIZE : goal.returns-then-work-ne-STACK_SIZE
+returns-then-work-ne-STACK_SIZE c m = laws.work_wrong _ c.if-memory-ne-MEMORY_SIZE.false c.if-devices-ne-PAGE_SIZE.false c.if-work-ne-STACK_SIZE.true
+
+pub returns-then-ret-ne-STACK_SIZE : goal.returns-then-ret-ne-STACK_SIZE
+returns-then-ret-ne-STACK_SIZE c m =
+    laws.ret_wrong _ c.if-memory-ne-MEMORY_SIZE.false c.if-devices-ne-PAGE_SIZE.false c.if-work-ne-STACK_SIZE.false c.if-ret-ne-STACK_SIZE.true
+
+pub returns : goal.returns
+returns c m =
+    laws.none_wrong _ c.if-memory-ne-MEMORY_SIZE.false c.if-devices-ne-PAGE_SIZE.false c.if-work-ne-STACK_SIZE.false c.if-ret-ne-STACK_SIZE.false
