@@ -94,8 +94,8 @@ class Turn:
             for var, old in row:
                 self.typed[old] = var
         self.loops = {}
-        for (old, new), names in data["loops"]:
-            self.loops[old] = (new, names)
+        for ((old, new), names), changed in zip(data["loops"], data["changed"]):
+            self.loops[old] = (new, names, changed)
         self.left = []
 
     def path(self, m):
@@ -134,13 +134,15 @@ class Turn:
         return re.sub(r"\bc(?:\.(?:" + TOKEN + r"|\d+))+", self.path, text)
 
 
-def invariant(clause, name, new, loop, params):
+def invariant(clause, new, names, changed):
     head, body = clause.split("=", 1)
     words = head.split()[1:]
     sub = {}
-    for w in words:
-        sub[w] = "l.initial." + w[:-1] if w.endswith("₀") else "l." + w
-    body = re.sub(r"[A-Za-z_][\w'₀-₉-]*", lambda m: sub.get(m.group(0), m.group(0)), body)
+    for word, name, moves in zip(words, names, changed):
+        sub[word] = "l.initial." + name if moves else "l." + name
+    for word, name in zip(words[len(names):], [n for n, moves in zip(names, changed) if moves]):
+        sub[word] = "l." + name
+    body = re.sub(r"(?<![\w'.-])[A-Za-z_][\w'₀-₉-]*", lambda m: sub.get(m.group(0), m.group(0)), body)
     return new + " l =" + body
 
 
@@ -166,12 +168,14 @@ def convert(crate, function, data):
         comment.append(line)
     uses = [u for u in imports(text) if not re.search(r"\.Statement\.\{statement\}|\.Tie as tie", u)]
     own = f"Rattle.{crate}.proofs." + function.replace("/", ".")
-    helpers = []
-    skip = set(terms)
+    # what is neither an answer nor the proof itself stays as it is
+    gone = set()
     for name, (sig, extra, clause, span) in decls.items():
-        if name in skip or name.endswith(("-spec", "_spec")) or sig.startswith("tie."):
-            continue
-        helpers.append("\n".join(text.split("\n")[span[0]:span[1]]))
+        if name in terms or name.endswith(("-spec", "_spec")) or sig.startswith("tie."):
+            gone.update(range(*span))
+    lines = text.split("\n")
+    kept = [line for i, line in enumerate(lines) if i not in gone and i >= len(comment) and not line.startswith("use ")]
+    helpers = [h.rstrip() for h in re.split(r"\n\n+", "\n".join(kept).strip("\n")) if h.strip()]
     opened = [e for n, (_, extra, _, _) in decls.items() if n.endswith(("-spec", "_spec")) for e in extra]
     body = []
     for term, goal in zip(rest, goals):
@@ -191,7 +195,7 @@ def convert(crate, function, data):
         sig, extra, clause, span = decls[t]
         kind, loop = t.split("-", 1)
         new = f"{kind}-" + turn.loops[loop][0]
-        inv.append(f"abbrev pub {new} : goal.{new}\n" + invariant(clause, t, new, loop, None))
+        inv.append(f"abbrev pub {new} : goal.{new}\n" + invariant(clause, new, *turn.loops[loop][1:]))
     os.remove(path)
     if inv:
         with open(f"{folder}/Invariants.antt", "w") as f:

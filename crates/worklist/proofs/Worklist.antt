@@ -2,12 +2,10 @@
 use mathlib.Core.Path.{◌≡◌, refl, sym, ap, ◌∙◌}
 use mathlib.Core.Logic.{◌⊎◌, inl, inr}
 use mathlib.Core.Bool.{Bool, true, false, cond, true≢false}
-use mathlib.Core.List.{List, [], ◌∷◌}
+use mathlib.Core.List.{List}
 use Prim.Native.Nat.{ℕ, ◌+◌, ◌-◌, ◌*◌, ◌≤◌, ◌<◌}
 use native.Mathlib.Decide.{ℕ_discrete}
 use native.Mathlib.Omega.{arith}
-use denote.Enum.Declared.{tag_of}
-use types.Run.{OneOf, miss}
 use lib.ListN.{length, get_or, set, length-set}
 use lib.Seq.{get_or-set_same, get_or-set_other}
 use lib.Dec.{ltb}
@@ -22,8 +20,6 @@ use Rattle.model.proofs.Sheet.{mark_in_lem, length-sheet}
 use Rattle.worklist.specs.declared.Next.{Next}
 use Rattle.worklist.specs.declared.Reached.{Reached}
 use Rattle.worklist.specs.declared.Rule.{Rule}
-use Rattle.worklist.specs.contracts.Next.{the_type}
-use Rattle.worklist.specs.contracts.Reached.{the_type as reached-type}
 use Rattle.worklist.specs.Worklist.{work_at, ret_at, routine_at, Has, Agrees, Led, Marks, Rooted, Roots, Listed, Extended, Marking, place_at, Told, Refutes, Outcome, Left}
 use Rattle.worklist.proofs.Sheets.{byte_of_record, mark_unmarked, mark_marked, with_mark, sheet-set, count_set, count_room}
 
@@ -343,20 +339,18 @@ tells program sheet queue tail sheet₁ queue₁ P rule i j (Next.Queued k) e t 
 
 -- it fails from wherever the worklist came
 pub refuted : (program sheet queue : List ℕ) (tail : ℕ) (sheet₀ queue₀ : List ℕ) (tail₀ : ℕ) (sheet₁ queue₁ : List ℕ) (P Q : Type 0) (n : Next)
-    → OneOf (0 ∷ []) (tag_of the_type n) → Outcome program sheet₀ queue₀ tail₀ sheet₁ queue₁ P n → Outcome program sheet queue tail sheet₁ queue₁ Q n
-refuted program sheet queue tail sheet₀ queue₀ tail₀ sheet₁ queue₁ P Q (Next.Refuted n) e o = o
-refuted program sheet queue tail sheet₀ queue₀ tail₀ sheet₁ queue₁ P Q (Next.Queued k) e o = absurd (miss (0 ∷ []) 1 tt e)
+    → {k : ℕ} → n ≡ Next.Refuted k → Outcome program sheet₀ queue₀ tail₀ sheet₁ queue₁ P n → Outcome program sheet queue tail sheet₁ queue₁ Q n
+refuted program sheet queue tail sheet₀ queue₀ tail₀ sheet₁ queue₁ P Q n e o = rw e (rw e at o)
 
 -- the two answers of `reach`
 pub is_marked_lem : (program sheet queue : List ℕ) (tail : ℕ) (sheet₁ queue₁ : List ℕ) (at w r q : ℕ) (n : Reached) (k : ℕ) → n ≡ Reached.Queued k
     → Marking program sheet queue tail sheet₁ queue₁ at w r q n → Extended program sheet queue tail sheet₁ queue₁ k × (mark_in sheet₁ at ≡ marked w r q)
 is_marked_lem program sheet queue tail sheet₁ queue₁ at w r q n k e o = rw e at o
 
-pub is_astray : (program sheet queue : List ℕ) (tail : ℕ) (sheet₁ queue₁ : List ℕ) (at w r q : ℕ) (n : Reached) → OneOf (0 ∷ []) (tag_of reached-type n)
+pub is_astray : (program sheet queue : List ℕ) (tail : ℕ) (sheet₁ queue₁ : List ℕ) (at w r q : ℕ) (n : Reached) → n ≡ Reached.Astray
     → Marking program sheet queue tail sheet₁ queue₁ at w r q n
     → (sheet₁ ≡ sheet) × (Within program at → Marks sheet at × (Has sheet (at - start) w r q → ⊥))
-is_astray program sheet queue tail sheet₁ queue₁ at w r q Reached.Astray e o = o
-is_astray program sheet queue tail sheet₁ queue₁ at w r q (Reached.Queued k) e o = absurd (miss (0 ∷ []) 1 tt e)
+is_astray program sheet queue tail sheet₁ queue₁ at w r q n e o = rw e at o
 
 -- what an outcome says, from what another one says
 pub outcome_by : (program sheet queue : List ℕ) (tail : ℕ) (sheet₁ queue₁ : List ℕ) (P Q : Type 0)

@@ -1,0 +1,37 @@
+-- `moves::some_wrong_new` meets its contract. The loop's invariant: no record before `at` is wrong. Assumes nothing.
+use native.Mathlib.Omega.{arith}
+use lib.Dec.{lit<}
+use Rattle.model.specs.Admission.{sheet_record}
+use Rattle.model.specs.Moves.{wrong_new}
+use Rattle.moves.proofs.Sheets as sheets
+use Rattle.moves.proofs.some_wrong_new.Goals as goal
+
+pub loop-at-init : goal.loop-at-init
+loop-at-init c = sheets.judged-start sheet_record wrong_new _ (lit< tt) c.requires
+
+pub overflow_add-end : goal.overflow_add-end
+overflow_add-end c = omega (arith, sheets.room sheet_record _ (lit< tt) c.loop-at.at c.loop-at.invariant.place c.loop-at-test.true)
+
+pub slice_bounds-wrong_new-count : goal.slice_bounds-wrong_new-count
+slice_bounds-wrong_new-count c = omega arith
+
+pub slice_bounds-wrong_new-start : goal.slice_bounds-wrong_new-start
+slice_bounds-wrong_new-start c = omega arith
+
+pub slice_bounds-wrong_new-end : goal.slice_bounds-wrong_new-end
+slice_bounds-wrong_new-end c = sheets.room sheet_record _ (lit< tt) c.loop-at.at c.loop-at.invariant.place c.loop-at-test.true
+
+pub wrong_new-requires : goal.wrong_new-requires
+wrong_new-requires c = sheets.piece_long sheet_record _ (lit< tt) c.loop-at.at c.loop-at.invariant.place c.loop-at-test.true
+
+pub returns-then-wrong_new : goal.returns-then-wrong_new
+returns-then-wrong_new c = sheets.judged-found sheet_record wrong_new _ (lit< tt) c.loop-at.at c.loop-at.invariant c.loop-at-test.true c.wrong_new.result c.wrong_new.ensures c.if-wrong_new.true
+
+pub loop-at-smaller : goal.loop-at-smaller
+loop-at-smaller c = omega arith
+
+pub loop-at-preserved : goal.loop-at-preserved
+loop-at-preserved c = sheets.judged-next sheet_record wrong_new _ (lit< tt) c.loop-at.at c.loop-at.invariant c.loop-at-test.true c.wrong_new.result c.wrong_new.ensures c.if-wrong_new.false
+
+pub returns : goal.returns
+returns c = sheets.judged_end sheet_record wrong_new _ (lit< tt) c.loop-at.at c.loop-at.invariant c.loop-at-test.false

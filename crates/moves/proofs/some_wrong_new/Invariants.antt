@@ -1,0 +1,13 @@
+-- `moves::some_wrong_new` meets its contract. The loop's invariant: no record before `at` is wrong. Assumes nothing.
+use Prim.Native.Nat.{◌-◌}
+use lib.ListN.{length}
+use Rattle.model.specs.Admission.{sheet_record}
+use Rattle.model.specs.Moves.{wrong_new}
+use Rattle.moves.proofs.Sheets as sheets
+use Rattle.moves.proofs.some_wrong_new.Given as goal
+
+abbrev pub invariant-loop-at : goal.invariant-loop-at
+invariant-loop-at l = sheets.Judged sheet_record wrong_new l.sheet l.at
+
+abbrev pub decreases-loop-at : goal.decreases-loop-at
+decreases-loop-at l = length l.sheet - l.at
