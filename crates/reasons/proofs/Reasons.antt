@@ -205,10 +205,10 @@ module _ (program sheet : List ℕ) (rule : Rule) (i j : ℕ) (told : Told progr
         lostly q (target_place program sheet i) (rw (f, g, work_is_lem, ret_is_lem) at h) (fails Rule.Target e).2
 
     -- the routine at its target
-    pub target-routine : {A B : Type 0} (at r : ℕ) → at ≡ target_of program (start + i) → (A × (r ≡ at)) ⊎ (B × (r ≡ p.routine))
-        → (A → byte ≡ 0x60) → (B → byte ≡ 0x60 → ⊥) → r ≡ (target_place program sheet i).routine
-    target-routine at r f (inl x) taken left = x.1 ∙ f ∙ rw (taken x.0)
-    target-routine at r f (inr x) taken left = x.1 ∙ rw (ne_eqb byte 0x60 (left x.0)) routine_is
+    pub target-routine : (at r : ℕ) → at ≡ target_of program (start + i) → ((byte ≡ 0x60) × (r ≡ at)) ⊎ ((byte ≡ 0x60 → ⊥) × (r ≡ p.routine))
+        → r ≡ (target_place program sheet i).routine
+    target-routine at r f (inl x) = x.1 ∙ f ∙ rw x.0
+    target-routine at r f (inr x) = x.1 ∙ rw (ne_eqb byte 0x60 x.0) routine_is
 
     pub back_lost : rule ≡ Rule.Back → (q : Place) → q ≡ place_at sheet j
         → Lostly (record { at = start + (i + 3); work = q.work; ret = p.ret; routine = p.routine })
