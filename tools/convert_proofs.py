@@ -142,7 +142,8 @@ def invariant(clause, new, names, changed):
         sub[word] = "l.initial." + name if moves else "l." + name
     for word, name in zip(words[len(names):], [n for n, moves in zip(names, changed) if moves]):
         sub[word] = "l." + name
-    body = re.sub(r"(?<![\w'.-])[A-Za-z_][\w'₀-₉-]*", lambda m: sub.get(m.group(0), m.group(0)), body)
+    # a field's name in a record is none of the variables
+    body = re.sub(r"(?<![\w'.-])[A-Za-z_][\w'₀-₉-]*(?! = )", lambda m: sub.get(m.group(0), m.group(0)), body)
     return new + " l =" + body
 
 
@@ -160,7 +161,13 @@ def convert(crate, function, data):
     heads = [t for t in terms if re.match(r"(invariant|decreases)-", t)]
     rest = [t for t in terms if t not in heads]
     if len(rest) != len(goals):
-        return f"{len(rest)} terms, {len(goals)} goals: {rest} {goals}"
+        # fewer goals now: those that have a term of their own, by name
+        by_name = dict(data["needs"])
+        named = [t for t in rest if t in decls]
+        needs = [re.match(r"tie\.Need-([\w-]+)", decls[t][0]).group(1) for t in named]
+        if not all(n in by_name for n in needs) or not all(t in decls or t.endswith("search rules)") for t in rest):
+            return f"{len(rest)} terms, {len(goals)} goals: {rest} {data['needs']}"
+        rest, goals = named, [by_name[n] for n in needs]
     comment = []
     for line in text.split("\n"):
         if not line.startswith("--"):

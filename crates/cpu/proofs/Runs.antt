@@ -1,12 +1,10 @@
 -- An instruction by its byte, the high marks, and a run from the steps of its loop. Assumes nothing.
 use Rattle.std.proofs.Common.{◌≡◌, ℕ, zero, suc, ◌+◌, ◌-◌, ◌/◌, ◌%◌, ◌<◌, ◌≤◌, Bool, true, false, cond, eqb, ltb, leb, List, [], ◌∷◌, sym, refl, ap, ◌∙◌, arith, ltb-false, ltb-true, le-ltb, lt-ltb, eq-eqb, ne_eqb, leb-false, leb-true}
-use denote.Enum.Declared.{tag_of}
-use types.Run.{OneOf, miss}
 use Rattle.model.specs.Bytes.{one_of, places_ring, greater}
-use Rattle.model.specs.Machine.{page_size, State, state}
+use Rattle.model.specs.Machine.{page_size, State}
 use Rattle.model.specs.Instruction.{wide, size, return_mode}
 use Rattle.model.specs.Instruction.Op.{DEO}
-use Rattle.model.specs.Step.{effect_on, exchanged, execute, raised, fetched, step, breaks, ports_of, step_ports}
+use Rattle.model.specs.Step.{effect_on, exchanged, execute, raised, fetched, step, breaks, step_ports}
 use Rattle.model.specs.Run.{Reply, reply, more, pauses, run}
 use Rattle.model.specs.Run.Answer.{WentOn, Broke, Spent}
 use Rattle.model.specs.declared.Machine.{Machine}
@@ -17,7 +15,6 @@ use Rattle.operations.proofs.Arms.{went}
 use Rattle.operations.specs.After.{executed, byte_of}
 use Rattle.execute.specs.Stepped.{of_stepped}
 use Rattle.execute.specs.declared.Stepped.{Stepped}
-use Rattle.execute.specs.contracts.Stepped.{the_type}
 use Rattle.cpu.specs.declared.End.{End}
 use Rattle.cpu.specs.Ended.{carried_out, raised_record, unspent, of_end, ended_by}
 
@@ -132,13 +129,13 @@ module _ (watch : Watch) (budget n k : ℕ) (d : n ≡ suc k) (b : n ≤ budget)
         rw (d, run_paused watch k s (went_on (breaks s) (answers g)) (rw (ports_are g) f), raises s (state_of next) (states g), ← u, z)
 
   pub ends : ((m : Machine) → raised (state_of m) ≡ state_of (raised_record m))
-      → (a : Stepped) → OneOf (1 ∷ []) (tag_of the_type a) → of_stepped state_of a ≡ carried_out s
+      → (a : Stepped) {m : Machine} → a ≡ Stepped.Broke m → of_stepped state_of a ≡ carried_out s
       → of_end budget state_of (ended_by a k) ≡ more (budget - n) (run watch n s)
   unfolding carried_out
-  ends u (Stepped.WentOn m port sent) e h = absurd (miss (1 ∷ []) 0 tt e)
-  ends u (Stepped.Broke m) e h =
+  ends u a {m} e h =
+      let g : of_stepped state_of (Stepped.Broke m) ≡ executed (fetched s) s = rw e at h in
       let z : budget - suc k + 1 ≡ budget - k = omega arith in
-      rw (d, run_broke watch k s (broke (breaks s) (answers h)), raises s (state_of m) (states h), ← u m, z)
+      rw (e, d, run_broke watch k s (broke (breaks s) (answers g)), raises s (state_of m) (states g), ← u m, z)
 
 -- what is not spent at the end
 pub unspent_is : (a : Stepped) (n : ℕ) {budget : ℕ} → n ≤ budget → unspent (ended_by a n) ≤ budget
