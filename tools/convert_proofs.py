@@ -82,6 +82,9 @@ class Turn:
             old, new = place[2]
             if old:
                 self.steps.setdefault(old, new)
+            k = re.fullmatch(r"At-(match\d*)-(keys\d+|rest)", place[0])
+            if k:
+                self.arms.setdefault((k.group(1), (k.group(2),)), new + ".is")
             if old and place[3] and data["params"].get(place[3]):
                 self.params[new] = data["params"][place[3]]
             if clause:

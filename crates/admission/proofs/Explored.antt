@@ -8,7 +8,7 @@ use native.Mathlib.Omega.{arith}
 use lib.ListN.{length, get_or, length-set, replicate, length-replicate}
 use Rattle.model.specs.Bytes.{Every}
 use Rattle.model.specs.Machine.{start}
-use Rattle.model.specs.Admission.{Mark, admit_most, successors, GoesOn, Leaves, floor, Rules, mark_at, sheet_of, record_at, mark_in, Smallest}
+use Rattle.model.specs.Admission.{Mark, admit_most, successors, GoesOn, Leaves, Rules, mark_at, sheet_of, record_at, mark_in, Smallest}
 use Rattle.model.specs.Admission.Mark.{unmarked, marked}
 use Rattle.model.specs.Admission.Way.{begin}
 use Rattle.model.proofs.Reached.{begun, begun_first, begun_cases, along, assigned_closed}

@@ -2,10 +2,8 @@
 use mathlib.Core.Path.{◌≡◌, refl, sym, ◌∙◌}
 use mathlib.Core.Logic.{inl, inr}
 use mathlib.Core.Bool.{Bool, true, false, ◌||◌, true≢false}
-use mathlib.Core.List.{List, [], ◌∷◌}
+use mathlib.Core.List.{List}
 use Prim.Native.Nat.{ℕ, ◌+◌, ◌≤◌}
-use denote.Enum.Declared.{tag_of}
-use types.Run.{OneOf, miss}
 use native.Mathlib.Omega.{arith}
 use lib.Dec.{eqb, ltb}
 use lib.ListN.{get_or}
@@ -14,7 +12,6 @@ use Rattle.model.specs.Instruction.{length_of}
 use Rattle.worklist.specs.Worklist.{Tested, Fails, ToldIn, Outcome}
 use Rattle.worklist.specs.declared.Next.{Next}
 use Rattle.worklist.specs.declared.Rule.{Rule}
-use Rattle.worklist.specs.contracts.Next.{the_type as next-type}
 use Rattle.admission.specs.declared.Depths.{Depths}
 use Rattle.admission.specs.declared.Stop.{Stop}
 use Rattle.admission.specs.Explored.{Judged, OfRoutines, Walked, Explored}
@@ -71,7 +68,8 @@ pub refuted : (program sheet queue : List ℕ) (tail : ℕ) (sheet₁ queue₁ :
 refuted program sheet queue tail sheet₁ queue₁ P n k e o = rw e at o
 
 -- one that is passed on
-pub stays : (program sheet queue : List ℕ) (tail : ℕ) (sheet₁ queue₁ : List ℕ) (P : Type 0) (n : Next) → OneOf (0 ∷ []) (tag_of next-type n)
+pub stays : (program sheet queue : List ℕ) (tail : ℕ) (sheet₁ queue₁ : List ℕ) (P : Type 0) (n : Next) {k : ℕ} → n ≡ Next.Refuted k
     → Outcome program sheet queue tail sheet₁ queue₁ P n → Explored program sheet₁ n
-stays program sheet queue tail sheet₁ queue₁ P (Next.Refuted k) e o = o
-stays program sheet queue tail sheet₁ queue₁ P (Next.Queued k) e o = absurd (miss (0 ∷ []) 1 tt e)
+stays program sheet queue tail sheet₁ queue₁ P n {k} e o =
+    let t : Outcome program sheet queue tail sheet₁ queue₁ P (Next.Refuted k) = rw e at o in
+    rw e t
