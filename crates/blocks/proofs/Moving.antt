@@ -1,10 +1,10 @@
 -- Laws of bytes that move to the front of their own list. Assumes nothing.
-use mathlib.Core.Path.{◌≡◌, refl, sym, ap, ◌∙◌}
+use mathlib.Core.Path.{◌≡◌, ap}
 use mathlib.Core.List.{List, ◌++◌}
-use Prim.Native.Nat.{ℕ, ◌+◌, ◌-◌, ◌≤◌, ◌<◌}
+use Prim.Native.Nat.{ℕ, ◌+◌, ◌≤◌, ◌<◌}
 use native.Mathlib.Omega.{arith}
 use lib.ListN.{length, get_or, set, take, drop, length-drop}
-use lib.Seq.{get_or-append-add, get_or-drop, length-take-le, take_at, take_all}
+use lib.Seq.{get_or-append-add, get_or-drop, length-take-le, take_at}
 use Rattle.buffers.proofs.Parts.{over_more}
 
 -- while i bytes have moved, the byte to be moved next still stands in its place

@@ -2,7 +2,6 @@
 -- other. Assumes nothing.
 use Rattle.std.specs.Prelude.{List, [], ◌++◌, ℕ, zero, suc, ◌*◌, ◌/◌, length, take, drop}
 use Rattle.model.specs.Machine.{State}
-use Rattle.model.specs.Run.{Reply}
 use Rattle.model.specs.Calls.{frame_size, frame_call}
 use Rattle.text.specs.Lines.{line}
 

@@ -51,11 +51,11 @@ pub fn install(
     out: &mut [u8],
 ) -> Done
     requires { (sheet_record * length program.now ≤ length sheet.old) × (line_most ≤ length out.old) }
-    ensures machine_is { state memory.new devices.new work.new ret.new result.machine
+    ensures machine_left { state memory.new devices.new work.new ret.new result.machine
         ≡ (install_call program.now (take (sheet_record * length program.now) sheet.old) (state memory.old devices.old work.old ret.old m)).reply.state }
-    ensures written_in_bounds { (result.written ≤ length out.new) × (take result.written out.new
+    ensures lines_written { (result.written ≤ length out.new) × (take result.written out.new
         ≡ line (install_call program.now (take (sheet_record * length program.now) sheet.old) (state memory.old devices.old work.old ret.old m)).reply) }
-    ensures m_value { result.written ≡ 0
+    ensures loaded { result.written ≡ 0
         → (install_call program.now (take (sheet_record * length program.now) sheet.old) (state memory.old devices.old work.old ret.old m)).reply.answer ≡ Loaded }
 {
     let n = SHEET_RECORD * program.len();
@@ -92,9 +92,9 @@ fn frames(
     out: &mut [u8],
 ) -> Done
     requires { line_most * whole_records records.now ≤ length out.old }
-    ensures machine_is { state memory.new devices.new work.new ret.new result.machine
+    ensures machine_left { state memory.new devices.new work.new ret.new result.machine
         ≡ machine_after records.now (state memory.old devices.old work.old ret.old m) (whole_records records.now) }
-    ensures written_in_bounds { (result.written ≤ length out.new) × (take result.written out.new
+    ensures lines_written { (result.written ≤ length out.new) × (take result.written out.new
         ≡ first_lines records.now (state memory.old devices.old work.old ret.old m) (whole_records records.now)) }
 {
     let count = records.len() / RECORD;
@@ -152,7 +152,7 @@ pub fn work_off(
       waiting = take result.waiting block.new;
     }
         ≡ judged (take n block.old) (state memory.old devices.old work.old ret.old m) }
-    ensures written_in_bounds { (result.written ≤ length out.new) × (result.waiting < frame_size) × (result.waiting ≤ length block.new) }
+    ensures bounds { (result.written ≤ length out.new) × (result.waiting < frame_size) × (result.waiting ≤ length block.new) }
 {
     let done = frames(m, memory, devices, work, ret, &block[..n], out);
     let waiting = n % RECORD;

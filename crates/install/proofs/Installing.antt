@@ -57,9 +57,9 @@ parts after (AdmitReply.Refused n) = (refl, refl)
 parts after AdmitReply.Admitted = (refl, refl)
 
 module _ (program sheet : List ℕ) (a : AdmitReply) (after : List ℕ) (e : of_admit after a ≡ admit_call program sheet) where
-  number_of : {k : ℕ} → number_in a ≡ k → refusal (admit_rows program sheet) ≡ k
+  number_is : {k : ℕ} → number_in a ≡ k → refusal (admit_rows program sheet) ≡ k
   unfolding admit_call
-  number_of h =
+  number_is h =
       sym (admit_number (refusal (admit_rows program sheet)) program sheet)
       ∙ sym (ap (λ (r : AdmitResult). number_of r.answer) e)
       ∙ (parts after a).0
@@ -67,12 +67,12 @@ module _ (program sheet : List ℕ) (a : AdmitReply) (after : List ℕ) (e : of_
 
   pub admit_sheet : {k : ℕ} → number_in a ≡ k → after ≡ (admit_by k program sheet).sheet
   unfolding admit_call
-  admit_sheet h = rw (← number_of h) (sym (parts after a).1 ∙ ap (λ (r : AdmitResult). r.sheet) e)
+  admit_sheet h = rw (← number_is h) (sym (parts after a).1 ∙ ap (λ (r : AdmitResult). r.sheet) e)
 
   pub install-number : (s : State) (n : ℕ) → n ≡ refusal (buffer_rows s) → n ≡ 0 → {k : ℕ} → number_in a ≡ k
       → k ≡ refusal (install_rows program sheet s)
   unfolding install_rows
-  install-number s n f z {k} h = by_rows s n f (admit_rows program sheet) k z (number_of h)
+  install-number s n f z {k} h = by_rows s n f (admit_rows program sheet) k z (number_is h)
 
 -- ---- the reply
 

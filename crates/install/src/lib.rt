@@ -23,8 +23,8 @@ fn install_refusal(
     program: &[u8],
     sheet: &mut [u8],
 ) -> u8
-    ensures value { (m : Machine) → result ≡ refusal (install_rows program.now sheet.old (state memory.now devices.now work.now ret.now m)) }
-    ensures sheet_is { sheet.new ≡ (admit_by result program.now sheet.old).sheet }
+    ensures refused_number { (m : Machine) → result ≡ refusal (install_rows program.now sheet.old (state memory.now devices.now work.now ret.now m)) }
+    ensures sheet_left { sheet.new ≡ (admit_by result program.now sheet.old).sheet }
 {
     let n = wrong_length(memory, devices, work, ret);
     if n != 0 {

@@ -189,8 +189,8 @@ fn move_block(direction: Direction, block: &[u8], output: &mut [u8]) -> WriteRep
 // the output, if it is not refused.
 pub fn take_block(direction: Direction, number: u8, block: &[u8], output: &mut [u8]) -> BlockMoved
     requires { 2 * length block.now ≤ length output.old }
-    ensures number_value { result.number ≡ earlier number (file_number direction block.now) }
-    ensures written_in_bounds { (result.written ≤ length output.new) × (take result.written output.new ≡ file_moved direction block.now) }
+    ensures number_so_far { result.number ≡ earlier number (file_number direction block.now) }
+    ensures block_moved { (result.written ≤ length output.new) × (take result.written output.new ≡ file_moved direction block.now) }
 {
     match move_block(direction, block, output) {
         WriteReply::Written(written) => BlockMoved {

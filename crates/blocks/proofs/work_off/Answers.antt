@@ -1,0 +1,17 @@
+-- `blocks::work_off` meets its contract. Assumes nothing.
+use Prim.Native.Nat.{◌%◌}
+use mathlib.Core.Path.{sym}
+use native.Mathlib.Omega.{arith}
+use lib.Seq.{length-take-le}
+use Rattle.model.specs.Calls.{frame_size}
+use Rattle.blocks.proofs.Blocks as blocks
+use Rattle.blocks.proofs.work_off.Goals as goal
+
+pub slice_bounds-frames-end-2 : goal.slice_bounds-frames-end-2
+slice_bounds-frames-end-2 c = sym (length-take-le c.args.n c.args.block.now (omega arith))
+
+pub frames-done-requires : goal.frames-done-requires
+frames-done-requires c = let e = length-take-le c.args.n c.args.block.now (omega arith) in omega (arith, e)
+
+pub returns : goal.returns
+returns c = record { block_after = blocks.worked c.args.n (c.args.n % frame_size) c.args.block.now _ _ _ _ (omega arith) (omega arith) c.move_to_front.ensures c.frames-done.ensures.machine_left c.frames-done.ensures.lines_written.1; bounds = (omega arith, omega arith, omega arith) }

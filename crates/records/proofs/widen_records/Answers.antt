@@ -1,0 +1,10 @@
+-- `records::widen_records` meets its contract. Assumes nothing.
+use native.Mathlib.Omega.{arith}
+use Rattle.records.proofs.Calls as calls
+use Rattle.records.proofs.widen_records.Goals as goal
+
+pub move_records-requires : goal.move_records-requires
+move_records-requires c = calls.direction_asks c.old_form.ensures c.new_form.ensures (omega arith, omega arith)
+
+pub returns : goal.returns
+returns c = calls.direction c.old_form.ensures c.new_form.ensures _ _ c.move_records.ensures

@@ -1,0 +1,11 @@
+-- `why::put_takes` meets its contract. Assumes nothing.
+use mathlib.Core.Path.{refl}
+use lib.ListN.{take}
+use native.Mathlib.Omega.{arith}
+use Rattle.why.specs.Explained.{takes}
+use Rattle.words.proofs.Putting.{puts, end, ◌then◌}
+use Rattle.why.proofs.put_takes.Goals as goal
+
+pub returns : goal.returns
+unfolding takes
+returns c = (omega arith, puts (take c.args.at c.args.out.now) (refl then c.put_with_count-after_count.ensures.1 then c.put-after_of.ensures.1 then c.put-after_stack.ensures.1 then refl then c.put_with_number.ensures.1 then end))
