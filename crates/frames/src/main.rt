@@ -7,13 +7,13 @@ ghost use Rattle.std.specs.Prelude.{◌+◌, ◌≤◌, length};
 ghost use Rattle.model.specs.Admission.{admit_most};
 
 use blocks::install;
-use input::{Input, asks_for_help, read_to_end};
-use libc::{STDERR_FILENO, STDOUT_FILENO};
+use input::{Input, argument, argument_count, asks_for_help, open, read_to_end, say_failed};
 use model::Machine;
+use std::io::{Print, Read};
 use stream::stream_records;
 
 // The sheet has room for one byte more than an install takes.
-fn run(program: &[u8], records: i32, records_path: &[u8])
+fn run(rt: &HostRuntime, program: &[u8], records: &mut impl Read, records_path: &[u8])
     requires { length program.now ≤ 1 + admit_most }
 {
     // "Fresh stacks are 256 bytes of zero"
@@ -43,13 +43,14 @@ fn run(program: &[u8], records: i32, records_path: &[u8])
     );
     let n = installed.written;
     if n != 0 {
-        if !io::write_all(STDOUT_FILENO, &line[..n]) {
-            os::fail(b"standard output");
+        if let Err(error) = rt.stdout().write_all(&line[..n]) {
+            say_failed(rt, b"standard output", &error);
         }
         return;
     }
     let m = installed.machine;
     stream_records(
+        rt,
         m,
         &mut memory,
         &mut devices,
@@ -61,60 +62,70 @@ fn run(program: &[u8], records: i32, records_path: &[u8])
 }
 
 // Both files are open; the paths are for messages.
-fn read_and_run(program: i32, program_path: &[u8], records: i32, records_path: &[u8]) {
+fn read_and_run(
+    rt: &HostRuntime,
+    program: &mut impl Read,
+    program_path: &[u8],
+    records: &mut impl Read,
+    records_path: &[u8],
+) {
     // One byte more than an install takes, so that a longer program is seen and refused.
     let mut bytes = [0u8; 4097];
-    let Input::Bytes(n) = read_to_end(program, &mut bytes) else {
-        os::fail(program_path);
-        return;
+    let n = match read_to_end(program, &mut bytes) {
+        Input::Bytes(n) => n,
+        Input::Failed(error) => {
+            say_failed(rt, program_path, &error);
+            return;
+        }
     };
-    run(&bytes[..n], records, records_path);
+    run(rt, &bytes[..n], records, records_path);
 }
 
-fn usage(fd: i32) {
-    io::write_all(
-        fd,
+fn usage(to: &impl Print) {
+    let _ = to.write_all(
         b"usage: frames PROGRAM RECORDS\nInstalls the filter in the file PROGRAM and writes a line for each whole 128-byte record of the file\nRECORDS: pass, drop, spent (10,000 steps used up), or refused and the number of the refusal.\nA program that is not admitted is not run: it gives one line, refused and the number.\nRefusals: 5 the program is empty, 9 it is above 4,096 bytes, 11 no depths and routines obey the\nadmission rules (explain says why); 8 a record's data length is above 126, or a byte past its data\nis not 0.\nA file of the old 64-byte records is not told from one of these: widen moves it to this form.\nStandard error is empty if all went well; bytes at the end of RECORDS that are no whole record\nare counted there.\n",
     );
 }
 
-fn main() {
-    if asks_for_help() {
-        usage(STDOUT_FILENO);
+// Both files are opened before anything is read.
+fn open_and_run(rt: &HostRuntime, program_path: &[u8], records_path: &[u8]) {
+    let mut program = match open(rt, program_path) {
+        Ok(file) => file,
+        Err(error) => {
+            say_failed(rt, program_path, &error);
+            return;
+        }
+    };
+    let mut records = match open(rt, records_path) {
+        Ok(file) => file,
+        Err(error) => {
+            say_failed(rt, records_path, &error);
+            return;
+        }
+    };
+    read_and_run(rt, &mut program, program_path, &mut records, records_path);
+}
+
+fn main(rt: HostRuntime) {
+    if asks_for_help(&rt) {
+        usage(&rt.stdout());
         return;
     }
-    if os::arg_count() != 3 {
-        usage(STDERR_FILENO);
+    if argument_count(&rt) != 3 {
+        usage(&rt.stderr());
         return;
     }
-    let mut program_path = io::buffer();
-    let program_length = os::arg(1, &mut program_path);
-    if os::errno() != 0 {
-        os::fail(b"PROGRAM");
+    let mut program_path = [0u8; 4096];
+    let Some(program_length) = argument(&rt, 1, b"PROGRAM", &mut program_path) else {
         return;
-    }
-    let mut records_path = io::buffer();
-    let records_length = os::arg(2, &mut records_path);
-    if os::errno() != 0 {
-        os::fail(b"RECORDS");
+    };
+    let mut records_path = [0u8; 4096];
+    let Some(records_length) = argument(&rt, 2, b"RECORDS", &mut records_path) else {
         return;
-    }
-    let program = os::open_read(&program_path[..program_length]);
-    if program < 0 {
-        os::fail(&program_path[..program_length]);
-        return;
-    }
-    let records = os::open_read(&records_path[..records_length]);
-    if records < 0 {
-        os::fail(&records_path[..records_length]);
-        return;
-    }
-    read_and_run(
-        program,
+    };
+    open_and_run(
+        &rt,
         &program_path[..program_length],
-        records,
         &records_path[..records_length],
     );
-    libc::close(program);
-    libc::close(records);
 }

@@ -6,9 +6,9 @@ ghost use Rattle.model.specs.Calls.{frame_size};
 ghost use Rattle.frames.specs.Reading.{block_size, lines_size, Came, CameInAll};
 
 use blocks::work_off;
-use input::{Input, read_more};
-use libc::{STDERR_FILENO, STDOUT_FILENO};
+use input::{Input, read_more, say, say_failed};
 use model::Machine;
+use std::io::{Print, Read};
 use text::put_decimal;
 
 // What one read leaves: the machine record, how many bytes of lines there are and were written, how many bytes of a part record
@@ -21,6 +21,13 @@ pub struct Turn {
     pub more: bool,
 }
 
+// Room for a block.
+fn block_buffer() -> [u8; 65536]
+    ensures { block_size ≡ length result }
+{
+    [0; 65536]
+}
+
 // Room for the lines of all records of a block.
 fn lines_buffer() -> [u8; 6144]
     ensures { lines_size ≡ length result }
@@ -29,7 +36,7 @@ fn lines_buffer() -> [u8; 6144]
 }
 
 // The file has ended, and so many bytes of it are no whole record: they have no line, and are not passed over in silence.
-fn end_of_file(path: &[u8], waiting: usize)
+fn end_of_file(rt: &HostRuntime, path: &[u8], waiting: usize)
     requires { waiting < frame_size }
 {
     if waiting == 0 {
@@ -37,23 +44,32 @@ fn end_of_file(path: &[u8], waiting: usize)
     }
     let mut digits = [0u8; 3];
     let n = put_decimal(&mut digits, 0, waiting as u8);
-    io::write_all(STDERR_FILENO, path);
-    io::write_all(
-        STDERR_FILENO,
-        b": bytes at the end that are no whole record: ",
-    );
-    io::write_all(STDERR_FILENO, &digits[..n]);
-    io::write_all(STDERR_FILENO, b"\n");
+    say(rt, path);
+    say(rt, b": bytes at the end that are no whole record: ");
+    say(rt, &digits[..n]);
+    say(rt, b"\n");
+}
+
+// The lines on standard output; false where they can not be written, which is said.
+fn put_lines(rt: &HostRuntime, lines: &[u8]) -> bool {
+    match rt.stdout().write_all(lines) {
+        Ok(()) => true,
+        Err(error) => {
+            say_failed(rt, b"standard output", &error);
+            false
+        }
+    }
 }
 
 // One read, and a line for each whole record that is there then.
 fn read_some(
+    rt: &HostRuntime,
     m: Machine,
     memory: &mut [u8],
     devices: &mut [u8],
     work: &mut [u8],
     ret: &mut [u8],
-    fd: i32,
+    file: &mut impl Read,
     path: &[u8],
     block: &mut [u8],
     waited: usize,
@@ -66,19 +82,22 @@ fn read_some(
           lines = take result.written lines.new;
           waiting = take result.waiting block.new;
         }) }
-    ensures waiting_lt_frame_size { result.waiting < frame_size }
+    ensures part_waits { result.waiting < frame_size }
 {
-    let Input::Bytes(n) = read_more(fd, block, waited) else {
-        os::fail(path);
-        return Turn {
-            machine: m,
-            written: 0,
-            waiting: waited,
-            more: false,
-        };
+    let n = match read_more(file, block, waited) {
+        Input::Bytes(n) => n,
+        Input::Failed(error) => {
+            say_failed(rt, path, &error);
+            return Turn {
+                machine: m,
+                written: 0,
+                waiting: waited,
+                more: false,
+            };
+        }
     };
     if n == waited {
-        end_of_file(path, waited);
+        end_of_file(rt, path, waited);
         return Turn {
             machine: m,
             written: 0,
@@ -90,10 +109,7 @@ fn read_some(
     let machine = done.machine;
     let written = done.written;
     let waiting = done.waiting;
-    let more = io::write_all(STDOUT_FILENO, &lines[..written]);
-    if !more {
-        os::fail(b"standard output");
-    }
+    let more = put_lines(rt, &lines[..written]);
     Turn {
         machine,
         written,
@@ -104,18 +120,19 @@ fn read_some(
 
 // The whole file. The answer is the machine record after all that came.
 pub fn stream_records(
+    rt: &HostRuntime,
     m: Machine,
     memory: &mut [u8],
     devices: &mut [u8],
     work: &mut [u8],
     ret: &mut [u8],
-    fd: i32,
+    file: &mut impl Read,
     path: &[u8],
 ) -> Machine
     ensures { CameInAll (state memory.old devices.old work.old ret.old m)
         (state memory.new devices.new work.new ret.new result) }
 {
-    let mut block_space = io::large_buffer();
+    let mut block_space = block_buffer();
     let block: &mut [u8] = &mut block_space;
     let mut lines_space = lines_buffer();
     let lines: &mut [u8] = &mut lines_space;
@@ -126,7 +143,7 @@ pub fn stream_records(
     let mut turns = u64::MAX;
     while turns > 0 {
         let turn = read_some(
-            machine, memory, devices, work, ret, fd, path, block, waiting, lines,
+            rt, machine, memory, devices, work, ret, file, path, block, waiting, lines,
         );
         machine = turn.machine;
         waiting = turn.waiting;

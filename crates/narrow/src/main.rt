@@ -2,25 +2,24 @@
 #![tactic(auto)]
 
 use convert::convert;
-use input::asks_for_help;
-use libc::{STDERR_FILENO, STDOUT_FILENO};
+use input::{argument_count, asks_for_help};
 use records::Direction;
+use std::io::Print;
 
-fn usage(fd: i32) {
-    io::write_all(
-        fd,
+fn usage(to: &impl Print) {
+    let _ = to.write_all(
         b"usage: narrow FILE > OLD\nWrites the 128-byte frame records of FILE as 64-byte records, each cut to its first 64 bytes.\nFILE is read twice; nothing is written if it is refused, and standard error then says\nrefused and the number: 15 FILE is not of whole 128-byte records; 8 a data length is above 126,\nor a byte past the data is not 0; 16 a data length is above 62.\nStandard error is empty if all went well.\n",
     );
 }
 
-fn main() {
-    if asks_for_help() {
-        usage(STDOUT_FILENO);
+fn main(rt: HostRuntime) {
+    if asks_for_help(&rt) {
+        usage(&rt.stdout());
         return;
     }
-    if os::arg_count() != 2 {
-        usage(STDERR_FILENO);
+    if argument_count(&rt) != 2 {
+        usage(&rt.stderr());
         return;
     }
-    convert(Direction::Narrow);
+    convert(&rt, Direction::Narrow);
 }

@@ -2,15 +2,15 @@
 #![tactic(auto)]
 
 ghost use Rattle.std.specs.Prelude.{◌≡◌, ◌*◌, ◌≤◌, length, take};
-ghost use Rattle.io.specs.Counts.{IsPrefixLen};
+ghost use Rattle.input.specs.Filled.{IsPrefixLen};
 ghost use Rattle.model.specs.Admission.{sheet_record};
 ghost use Rattle.model.specs.Calls.{number_of, admit_call};
 ghost use Rattle.sheet.specs.Output.{output};
 
 use admission::admit;
-use input::{Input, asks_for_help, read_to_end, say_refused};
-use libc::{STDERR_FILENO, STDIN_FILENO, STDOUT_FILENO};
+use input::{Input, argument_count, asks_for_help, read_to_end, say_failed, say_refused};
 use model::AdmitReply;
+use std::io::Print;
 
 const RECORD: usize = 8;
 
@@ -24,9 +24,9 @@ struct Made {
 // The program's sheet, at the start of `sheet`.
 fn make_sheet(program: &[u8], sheet: &mut [u8]) -> Made
     requires { sheet_record * length program.now ≤ length sheet.old }
-    ensures prefix_len { IsPrefixLen result.bytes sheet.new × (take result.bytes sheet.new
+    ensures sheet_made { IsPrefixLen result.bytes sheet.new × (take result.bytes sheet.new
         ≡ output (admit_call program.now (take (sheet_record * length program.now) sheet.old))) }
-    ensures number_value { result.number
+    ensures refused_number { result.number
         ≡ number_of (admit_call program.now (take (sheet_record * length program.now) sheet.old)).answer }
 {
     let n = RECORD * program.len();
@@ -39,37 +39,39 @@ fn make_sheet(program: &[u8], sheet: &mut [u8]) -> Made
     }
 }
 
-fn usage(fd: i32) {
-    io::write_all(
-        fd,
+fn usage(to: &impl Print) {
+    let _ = to.write_all(
         b"usage: sheet < PROGRAM > SHEET\nWrites eight bytes for each byte of the program: mark, working depth, return depth, the byte,\nthe routine (two bytes), two zeros.\nA program that is not admitted gives nothing, and on standard error refused and the number:\n5 it is empty, 9 it is above 4,096 bytes, 11 no depths and routines obey the admission rules.\n",
     );
 }
 
-fn main() {
-    if asks_for_help() {
-        usage(STDOUT_FILENO);
+fn main(rt: HostRuntime) {
+    if asks_for_help(&rt) {
+        usage(&rt.stdout());
         return;
     }
-    if os::arg_count() != 1 {
-        usage(STDERR_FILENO);
+    if argument_count(&rt) != 1 {
+        usage(&rt.stderr());
         return;
     }
     // One byte more than admission takes, so that a longer program is seen and refused.
     let mut program = [0u8; 4097];
     let mut sheet = [0u8; 32776];
-    let Input::Bytes(n) = read_to_end(STDIN_FILENO, &mut program) else {
-        os::fail(b"standard input");
-        return;
+    let n = match read_to_end(&mut rt.stdin(), &mut program) {
+        Input::Bytes(n) => n,
+        Input::Failed(error) => {
+            say_failed(&rt, b"standard input", &error);
+            return;
+        }
     };
     let made = make_sheet(&program[..n], &mut sheet);
     let number = made.number;
     if number != 0 {
-        say_refused(number);
+        say_refused(&rt, number);
         return;
     }
     let written = made.bytes;
-    if !io::write_all(STDOUT_FILENO, &sheet[..written]) {
-        os::fail(b"standard output");
+    if let Err(error) = rt.stdout().write_all(&sheet[..written]) {
+        say_failed(&rt, b"standard output", &error);
     }
 }
