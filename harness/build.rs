@@ -28,7 +28,7 @@ fn link_library() {
     println!("cargo::rerun-if-changed={}", library.display());
     if !library.is_file() {
         println!(
-            "cargo::error=the proved library {} is missing: `rt staticlib capi` in the repository's root makes it",
+            "cargo::error=the proved library {} is missing: `tools/build capi` in the repository's root makes it",
             library.display()
         );
         return;

@@ -1,5 +1,5 @@
 /*
- * The filter machine as a static library: libcapi.a, made by `rt staticlib capi`, for x86-64.
+ * The filter machine as a static library: libcapi.a, made by `tools/build capi`, for x86-64.
  *
  * A machine is a record of five numbers, passed and returned by value, and four buffers that the caller owns and lends to
  * each call, each with its length in bytes:

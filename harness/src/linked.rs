@@ -79,7 +79,7 @@ pub fn program(name: &str) -> PathBuf {
     let path = folder.join(name);
     assert!(
         path.is_file(),
-        "the program {} is missing: `rt check {name}` in the repository's root makes it",
+        "the program {} is missing: `tools/build {name}` in the repository's root makes it",
         path.display()
     );
     path

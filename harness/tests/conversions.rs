@@ -183,7 +183,7 @@ fn worked_cases() {
     }
 }
 
-/// The examples that `rt check` runs.
+/// The examples that `rt ci` runs.
 #[test]
 fn the_examples() {
     for conversion in BOTH {

@@ -6,16 +6,20 @@ use std::process::{id, Command};
 
 use uxn_filter_harness::compiled::repository;
 
-const VERDICT: &str = "logic=proved functions=3 sum=097e4c862dff5811 native=nat,char,string \
-                       logic-built=trusted libraries-built=trusted";
+const VERDICT: &str = "logic=proved functions=3 sum=dac8208d650f15bf native=nat,char,string \
+                       logic-built=trusted libraries-built=trusted statements=trusted";
 const PROGRAM_VERDICT: &str =
-    "logic=proved functions=3 axioms=5 target=x86_64-unknown-linux-gnu sum=097e4c862dff5811 \
-     native=nat,char,string logic-built=trusted libraries-built=trusted";
+    "logic=proved functions=3 axioms=5 target=x86_64-unknown-linux-gnu cpu=x86-64-v2 \
+     sum=dac8208d650f15bf native=nat,char,string logic-built=trusted libraries-built=trusted \
+     statements=trusted";
+/// What rt ci says of a crate that an earlier run proved, in the place of its verdict.
+const KEPT: &str =
+    "is kept: an earlier run on this machine proved the same files over the same libraries";
 /// What rt ci prints after the proofs.
 const REST: &str =
     "rt: must-fail model/word: refused, as it must be (first at specs/Bytes.antt:3:1; 4 s)\n\
                     rt: sheet ran as nobody, and wrote what its file 'stdout' has (0 s)\n\
-                    rt: ok, 21 crates proved, 162 must-fail edits refused\n\
+                    rt: ok; handles allowed: none; must-fail edits: 162 refused; every proof and must-fail edit was done in this run\n\
                     183 passed, 0 failed\n";
 
 struct Crate {
@@ -50,7 +54,7 @@ fn listed() -> Vec<Crate> {
         Crate {
             name: name.to_owned(),
             verdict: format!("{verdict}\n"),
-            proved: format!("{linked}rt: {name} proved (4 s)\n"),
+            proved: format!("{linked}rt: {name} proved\n"),
         }
     });
     listed.collect()
@@ -117,7 +121,7 @@ fn a_verdict_that_is_missing_or_another() {
         ("not of this run", |one| {
             one.proved = one
                 .proved
-                .replace("(4 s)", "(unchanged since it was last proved)");
+                .replace(" proved\n", " proved (unchanged since it was last proved)\n");
         }),
         ("of the quick loop", |one| {
             one.verdict = one.verdict.replace(" sum=", " incremental=trusted sum=");
@@ -164,6 +168,36 @@ fn a_verdict_of_no_crate() {
     refused(
         "a further crate",
         &listed(),
-        &format!("{VERDICT}\nrt: further proved (4 s)\n{REST}"),
+        &format!("{VERDICT}\nrt: further proved\n{REST}"),
     );
+}
+
+/// A crate that is kept has one line, and no verdict.
+#[test]
+fn a_crate_that_is_kept() {
+    let last = listed().len() - 1;
+    let kept = |crates: &mut Vec<Crate>, at: usize, line: &str| {
+        crates[at].verdict.clear();
+        crates[at].proved = format!("rt: {} {line}\n", crates[at].name);
+    };
+    for at in [0, last / 2, last] {
+        let mut crates = listed();
+        kept(&mut crates, at, KEPT);
+        let (passed, said) = judged(&format!("kept {at}"), &crates, REST);
+        assert!(passed && said.is_empty(), "{said}");
+        crates[at].verdict = format!("{VERDICT}\n");
+        refused(&format!("kept and proved {at}"), &crates, REST);
+        kept(&mut crates, at, "is kept: nobody knows why");
+        refused(&format!("kept otherwise {at}"), &crates, REST);
+        let line = crates[at].proved.clone();
+        kept(&mut crates, at, KEPT);
+        crates[at].proved += &line;
+        refused(&format!("kept twice {at}"), &crates, REST);
+    }
+    let mut crates = listed();
+    for at in 0..=last {
+        kept(&mut crates, at, KEPT);
+    }
+    let (passed, said) = judged("all kept", &crates, REST);
+    assert!(passed && said.is_empty(), "{said}");
 }

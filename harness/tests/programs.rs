@@ -1192,7 +1192,7 @@ fn lines_of_explain() {
     assert_written(&output, &Written::only_out("refused 9\n"), "/dev/zero");
 }
 
-/// The example that `rt check` runs.
+/// The example that `rt ci` runs.
 #[test]
 fn the_example_of_explain() {
     let [input, line] =

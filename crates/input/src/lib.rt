@@ -5,9 +5,10 @@ ghost use Rattle.std.specs.Prelude.{◌≡◌, ◌≤◌, length, take, IfSome};
 ghost use Rattle.input.specs.Filled.{FilledTo};
 
 use std::env::{Env, FillError};
+use std::fmt::Write;
 use std::fs::File;
 use std::io::{Print, Read};
-use std::{fs, io};
+use std::{fmt, fs, io};
 use text::put_refused;
 
 // Up to where the buffer is filled now, or that a read failed, and why.
@@ -112,17 +113,59 @@ pub fn say(rt: &HostRuntime, text: &[u8]) {
     let _ = rt.stderr().write_all(text);
 }
 
+// Room for the words of an error; what does not fit is left out.
+#[derive(Drop)]
+struct Words {
+    bytes: [u8; 128],
+    written: usize,
+    ghost whole: { length bytes ≡ 128 },
+}
+
+impl fmt::Write for Words {
+    fn write_str(&mut self, text: &str) -> fmt::Result {
+        for b in text.as_bytes() {
+            let at = self.written;
+            if at < 128 {
+                self.bytes[at] = *b;
+                self.written = at + 1;
+            }
+        }
+        Ok(())
+    }
+}
+
+// Behind the system's words an error has its number, from here on.
+const NUMBER: &[u8] = b" (os error ";
+
+fn first_bytes(bytes: &[u8], length: usize) -> &[u8] {
+    if length < bytes.len() {
+        &bytes[..length]
+    } else {
+        bytes
+    }
+}
+
+fn without_number(text: &[u8]) -> &[u8] {
+    for i in 0..text.len() {
+        if text[i..].starts_with(NUMBER) {
+            return &text[..i];
+        }
+    }
+    text
+}
+
 // What failed, and the system's words for why.
 pub fn say_failed(rt: &HostRuntime, what: &[u8], error: &io::Error) {
+    let mut words = Words {
+        bytes: [0; 128],
+        written: 0,
+    };
+    let _ = write!(words, "{error}");
+    let bytes = words.bytes;
+    let reason = without_number(first_bytes(&bytes, words.written));
     say(rt, what);
     say(rt, b": ");
-    match format!(in rt.alloc(); "{error}") {
-        Ok(text) => match text.split_once(" (os error ") {
-            Some((reason, _)) => say(rt, reason.as_bytes()),
-            None => say(rt, text.as_bytes()),
-        },
-        Err(_) => {}
-    }
+    say(rt, reason);
     say(rt, b"\n");
 }
 

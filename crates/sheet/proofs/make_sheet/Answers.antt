@@ -10,7 +10,7 @@ use Rattle.sheet.proofs.make_sheet.Goals as goal
 pub returns-in-Admitted-clause-sheet_made : goal.returns-in-Admitted-clause-sheet_made
 returns-in-Admitted-clause-sheet_made c =
     let w = written.admitted_is c.admit.new.sheet _ _ _ c.admit.ensures _
-        (c.admit.auto.sheet ∙ length-take-le (8 * length c.args.program.now) c.args.sheet.now (omega arith)) c.in-Admitted.is in
+    (c.admit.auto.sheet ∙ length-take-le (8 * length c.args.program.now) c.args.sheet.now (omega arith)) c.in-Admitted.is in
     (w.0, w.1)
 
 pub returns-in-Refused-clause-sheet_made : goal.returns-in-Refused-clause-sheet_made
