@@ -38,6 +38,8 @@ pub const NOT_READ: &str = "Input/output error";
 pub const NOT_OPEN: &str = "Bad file descriptor";
 pub const NO_SPACE: &str = "No space left on device";
 pub const NO_READER: &str = "Broken pipe";
+/// Of a name that is no UTF-8 text, which opens no file.
+pub const NO_TEXT: &str = "Invalid or incomplete multibyte or wide character";
 
 /// A name of standard input.
 pub const STDIN: &str = "/dev/stdin";
@@ -45,9 +47,6 @@ pub const STDIN: &str = "/dev/stdin";
 /// What is named where standard input or standard output fails.
 pub const INPUT: &str = "standard input";
 pub const OUTPUT: &str = "standard output";
-
-/// The number of the signal of a closed pipe.
-pub const SIGPIPE: i32 = 13;
 
 /// `80 01 80 F2 17 00`: passes every frame.
 pub const PASSES: [u8; 6] = [0x80, 0x01, 0x80, 0xf2, 0x17, 0x00];

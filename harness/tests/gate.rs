@@ -119,9 +119,10 @@ fn a_verdict_that_is_missing_or_another() {
             one.verdict.insert_str(0, "note: ")
         }),
         ("not of this run", |one| {
-            one.proved = one
-                .proved
-                .replace(" proved\n", " proved (unchanged since it was last proved)\n");
+            one.proved = one.proved.replace(
+                " proved\n",
+                " proved (unchanged since it was last proved)\n",
+            );
         }),
         ("of the quick loop", |one| {
             one.verdict = one.verdict.replace(" sum=", " incremental=trusted sum=");

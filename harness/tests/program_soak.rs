@@ -10,7 +10,6 @@ use std::io::{Read, Write};
 use std::os::fd::OwnedFd;
 use std::os::unix::fs::symlink;
 use std::os::unix::net::UnixStream;
-use std::os::unix::process::ExitStatusExt;
 use std::path::{Path, PathBuf};
 use std::process::{Command, ExitStatus, Stdio};
 use std::thread::{self, JoinHandle};
@@ -22,7 +21,7 @@ use uxn_filter_harness::filters::{any, any_length, filter};
 use uxn_filter_harness::linked::{
     self, after, calling, ends, expected_lines, expected_sheet, feed, file, frames, pipe, quick,
     random_record, said_at_end, same, sheet, signal, Written, BLOCK, INPUT, IS_FOLDER, NOT_READ,
-    NO_FILE, NO_READER, NO_SPACE, OUTPUT, SIGPIPE,
+    NO_FILE, NO_READER, NO_SPACE, OUTPUT,
 };
 use uxn_filter_harness::programs::either;
 use uxn_filter_harness::random::Random;
@@ -335,8 +334,8 @@ impl Ran {
         }
     }
 
-    /// Where the output fails, that is the one message, or the signal ends the program without one:
-    /// what else is said comes after all that is written.
+    /// Where the output fails, that is the one message: what else is said comes after all that is
+    /// written.
     fn check(&self, expected: &Expected, sink: Sink) -> Result<(), String> {
         let Expected { written, endless } = expected;
         let Written { out, said } = written;
@@ -344,13 +343,7 @@ impl Ran {
         match sink {
             Sink::Leaves(bytes) | Sink::LeavesUnheard(bytes) if bytes < out.len() => {
                 same(OUTPUT, &self.written.out, &out[..bytes])?;
-                let failed = match sink {
-                    Sink::Leaves(_) if self.status.signal() == Some(SIGPIPE) => {
-                        same("standard error", &self.written.said, &[])
-                    }
-                    Sink::Leaves(_) => Err(format!("it ended with {}", self.status)),
-                    _ => unwritten(NO_READER),
-                };
+                let failed = unwritten(NO_READER);
                 // All may have been written before the reader left.
                 match !endless && out.len() - bytes <= PIPE {
                     true => failed.or_else(|_| self.said(said)),

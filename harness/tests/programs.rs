@@ -10,7 +10,6 @@ use std::io::{self, BufRead, BufReader, Read, Write};
 use std::os::fd::OwnedFd;
 use std::os::unix::ffi::OsStrExt;
 use std::os::unix::net::UnixStream;
-use std::os::unix::process::ExitStatusExt;
 use std::path::{Path, PathBuf};
 use std::process::{Command, Stdio};
 use std::sync::{mpsc, Mutex};
@@ -32,7 +31,7 @@ use uxn_filter_harness::linked::{
     expected_lines, expected_sheet, explain, failing, file, frames, full, lines_of, pipe, program,
     quick, random_record, run, run_in_pieces, said_at_end, sheet, sheet_of, Conversion, Written,
     BLOCK, BLOCK_BYTES, BUDGET, INPUT, IS_FOLDER, NARROW, NOT_OPEN, NOT_READ, NO_FILE, NO_READER,
-    NO_SPACE, OUTPUT, PASSES, PATIENCE, SIGPIPE, STDIN, WIDEN,
+    NO_SPACE, NO_TEXT, OUTPUT, PASSES, PATIENCE, STDIN, WIDEN,
 };
 use uxn_filter_harness::listing::{self, hexadecimal, listing, Listed};
 use uxn_filter_harness::opcodes::{BRK, DUP, INC, JMP2R, LIT, POP, STA};
@@ -645,8 +644,7 @@ fn descriptors_that_are_closed() {
     }
 }
 
-/// Where a message can not be written all else is as ever; a pipe whose reader has gone ends the
-/// program by its signal.
+/// Where a message can not be written all else is as ever, also into a pipe whose reader has gone.
 #[test]
 fn standard_error_that_takes_nothing() {
     let folder = folder("standard_error_that_takes_nothing");
@@ -669,7 +667,7 @@ fn standard_error_that_takes_nothing() {
         assert_eq!(ended(full()).code(), Some(0));
         let (reader, writer) = io::pipe().expect("a pipe");
         drop(reader);
-        assert_eq!(ended(writer.into()).signal(), Some(SIGPIPE));
+        assert_eq!(ended(writer.into()).code(), Some(0));
     }
 }
 
@@ -733,18 +731,28 @@ fn names_of_any_bytes() {
     let folder = folder("names_of_any_bytes");
     let every: Vec<u8> = (1..=255).filter(|byte| *byte != b'/').collect();
     let halves = every.split_at(every.len() / 2);
-    for bytes in [halves.0, halves.1, b"--help", b"-h", b"--", b"-", b" "] {
+    let ascii: Vec<u8> = every.iter().copied().filter(u8::is_ascii).collect();
+    let letters = "\u{80}\u{7ff}\u{800}\u{10000}\u{10ffff}".as_bytes();
+    for bytes in [
+        halves.0, halves.1, &ascii, letters, b"--help", b"-h", b"--", b"-", b" ",
+    ] {
+        // A name that is no text opens no file, whatever is there.
+        let text = std::str::from_utf8(bytes).is_ok();
         let name = OsStr::from_bytes(bytes);
         fs::write(folder.join(name), PASSES).expect("a file is written");
         let records = [OsStr::from_bytes(b"records-"), name].join(OsStr::new(""));
         let bytes = [0; RECORD + 6];
         fs::write(folder.join(&records), bytes).expect("a file is written");
-        let expected = expected_frames(&PASSES, &bytes, &records);
+        let expected = match text {
+            true => expected_frames(&PASSES, &bytes, &records),
+            false => Written::failed(name, NO_TEXT),
+        };
         let mut command = frames();
         command.arg(name).arg(&records).current_dir(&folder);
         assert_writes(&mut command, &[], &expected);
         fs::remove_file(folder.join(name)).expect("the file goes");
-        assert_writes(&mut command, &[], &Written::failed(name, NO_FILE));
+        let gone = if text { NO_FILE } else { NO_TEXT };
+        assert_writes(&mut command, &[], &Written::failed(name, gone));
     }
 }
 
@@ -824,7 +832,7 @@ fn little_memory() {
 fn a_reader_that_leaves() {
     let folder = folder("a_reader_that_leaves");
     let passes = file(&folder, "passes.rom", &PASSES);
-    // With the signal of a closed pipe, and where that is ignored and the write fails.
+    // Whether or not the shell ignores the signal of a closed pipe, the write fails.
     for shell in ["true", "trap '' PIPE"] {
         let mut child = after(shell, "frames")
             .arg(&passes)
@@ -840,12 +848,7 @@ fn a_reader_that_leaves() {
         drop(lines);
         assert!(ends(&mut child), "frames goes on with nobody reading");
         let output = child.wait_with_output().expect("the program has ended");
-        if shell.contains("trap") {
-            assert_written(&output, &Written::failed(OUTPUT, NO_READER), shell);
-        } else {
-            assert_eq!(output.status.signal(), Some(SIGPIPE));
-            assert_eq!(output.stderr, []);
-        }
+        assert_written(&output, &Written::failed(OUTPUT, NO_READER), shell);
     }
 }
 
@@ -1229,9 +1232,8 @@ fn explain_says_what_it_can_not_read_or_write() {
         assert_written(&ended(full()), &expected, "explain");
         let (reader, writer) = io::pipe().expect("a pipe");
         drop(reader);
-        let output = ended(writer.into());
-        assert_eq!(output.status.signal(), Some(SIGPIPE));
-        assert_eq!(output.stderr, []);
+        let expected = Written::failed(OUTPUT, NO_READER);
+        assert_written(&ended(writer.into()), &expected, "explain");
     }
 }
 
@@ -1294,7 +1296,7 @@ fn a_script_tells_success() {
     assert_eq!(script(&refused), "refused 11\n");
     assert_eq!(fs::read(&written).expect("the sheet"), []);
 
-    // A reader that leaves before there is a sheet: the signal ends the program, and nothing is said.
+    // A reader that leaves before there is a sheet: the write fails, and that is said.
     fs::remove_file(&written).expect("the file goes");
     let [rom, written] = ["passes.pipe", "filter.sheet"].map(|name| pipe(&folder, name));
     let coming = rom.clone();
@@ -1303,7 +1305,7 @@ fn a_script_tells_success() {
         drop(File::open(written)?);
         to.write_all(&PASSES)
     });
-    assert_eq!(script(&rom), "");
+    assert_eq!(script(&rom), format!("{OUTPUT}: {NO_READER}\n"));
     leaves.join().unwrap().expect("the program is written");
 }
 
