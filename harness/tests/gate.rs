@@ -44,7 +44,7 @@ impl Crate {
 fn listed() -> Vec<Crate> {
     let list = fs::read_to_string(repository("crates.txt")).expect("the list");
     let lines = list.lines().filter(|line| !line.starts_with('#'));
-    let names = lines.filter_map(|line| line.split(':').next());
+    let names = lines.filter_map(|line| line.split([':', ' ']).next());
     let listed = names.map(|name| {
         let program = repository("crates").join(name).join("src/main.rt");
         let (verdict, linked) = match program.is_file() {
