@@ -215,7 +215,7 @@ fn the_map_and_the_layers_have_every_crate() {
     };
     let listed = text_of(&repository("crates.txt"));
     for line in listed.lines().filter(|line| !line.starts_with('#')) {
-        let name = line.split(':').next().unwrap().trim();
+        let name = line.split([':', ' ']).next().unwrap();
         let in_map = has_row(&map, &format!("`crates/{name}"));
         assert!(in_map, "README.md has no row for crates/{name}");
         let in_layers = has_row(&layers, &format!("`{name}`"));
