@@ -12,6 +12,7 @@ import os
 import re
 import subprocess
 import sys
+import tempfile
 
 TOKEN = r"[A-Za-z_][\w'-]*"
 
@@ -222,7 +223,7 @@ def convert(crate, function, data):
 
 
 for crate in sys.argv[1:]:
-    out = f"/tmp/names-{crate}"
+    out = tempfile.mkdtemp()
     subprocess.run(["rt", "check", "--generated", out, "--old-names"], cwd=f"crates/{crate}", stdout=subprocess.DEVNULL, stderr=subprocess.DEVNULL)
     names = json.load(open(out + "/names.json"))
     for key, data in sorted(names.items()):
