@@ -1,4 +1,4 @@
--- Laws of frame calls for one record machine_after the other, and for blocks of records. Assumes nothing.
+-- Laws of frame calls for one record after the other, and for blocks of records. Assumes nothing.
 use mathlib.Core.Path.{◌≡◌, refl, sym, ap, ◌∙◌}
 use mathlib.Core.List.{List, [], ◌++◌, append_assoc, append-nil}
 use Prim.Native.Nat.{ℕ, zero, suc, ◌+◌, ◌-◌, ◌*◌, ◌%◌, ◌≤◌, ◌<◌}

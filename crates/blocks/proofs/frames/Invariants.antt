@@ -1,4 +1,4 @@
--- `blocks::frames` meets its contract. The loop's invariant: the machine and the first_lines are those machine_after k records. Assumes nothing.
+-- `blocks::frames` meets its contract. The loop's invariant: the machine and the lines are those after k records. Assumes nothing.
 use mathlib.Core.Path.{◌≡◌}
 use Prim.Native.Nat.{◌≤◌, ◌-◌, ◌*◌}
 use lib.ListN.{length, take}
