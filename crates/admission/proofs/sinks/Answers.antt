@@ -8,7 +8,7 @@ pub bounds-program-i : goal.bounds-program-i
 bounds-program-i c = c.requires.1
 
 pub returns-then-entry-eq0 : goal.returns-then-entry-eq0
-returns-then-entry-eq0 c = judged.takes_none _ _ _ (sym c.entry.ensures ∙ c.if-entry-eq0.true) c.requires.5
+returns-then-entry-eq0 c = judged.takes_none _ _ _ (sym c.entry.ensures ∙ omega arith) c.requires.5
 
 pub floor_of-requires : goal.floor_of-requires
 floor_of-requires c = (c.requires.3, c.requires.4)

@@ -8,7 +8,7 @@ pub returns-then-byte-ne-DEO : goal.returns-then-byte-ne-DEO
 returns-then-byte-ne-DEO c devices = writes_none (state c.args.memory.now devices c.args.work.now c.args.ret.now c.args.m) (omega (arith, c.type_inv.memory c.args.m.pc)) c.if-byte-ne-DEO.true
 
 pub returns-then-byte-eq1 : goal.returns-then-byte-eq1
-returns-then-byte-eq1 c devices = writes (state c.args.memory.now devices c.args.work.now c.args.ret.now c.args.m) true c.if-byte-ne-DEO.false (eq-eqb _ _ c.if-byte-eq1.true) c.port_of.ensures c.ports_from.ensures
+returns-then-byte-eq1 c devices = writes (state c.args.memory.now devices c.args.work.now c.args.ret.now c.args.m) true c.if-byte-ne-DEO.false (eq-eqb _ _ (omega arith)) c.port_of.ensures c.ports_from.ensures
 
 pub returns : goal.returns
-returns c devices = writes (state c.args.memory.now devices c.args.work.now c.args.ret.now c.args.m) false c.if-byte-ne-DEO.false (ne_eqb _ _ c.if-byte-eq1.false) c.port_of-2.ensures c.ports_from-2.ensures
+returns c devices = writes (state c.args.memory.now devices c.args.work.now c.args.ret.now c.args.m) false c.if-byte-ne-DEO.false (ne_eqb _ _ (λ z. omega arith)) c.port_of-2.ensures c.ports_from-2.ensures

@@ -22,11 +22,11 @@ input-vector-requires c = (numbers.event_right _ _ (numbers.none _ (c.event_refu
 
 pub returns-then-vector-eq0 : goal.returns-then-vector-eq0
 unfolding event_call
-returns-then-vector-eq0 c = numbers.taken _ _ _ (c.event_refusal-number.ensures _) c.if-number-ne0.false (calls.ignored _ _ _ _ (calls.vector_is _ _ (omega arith) c.input-vector.ensures) c.if-vector-eq0.true)
+returns-then-vector-eq0 c = numbers.taken _ _ _ (c.event_refusal-number.ensures _) c.if-number-ne0.false (calls.ignored _ _ _ _ (calls.vector_is _ _ (omega arith) c.input-vector.ensures) (omega arith))
 
 pub run-end-requires : goal.run-end-requires
 run-end-requires c = calls.resized _ _ _ _ c.args.m _ (numbers.event_right _ _ (numbers.none _ (c.event_refusal-number.ensures c.args.m) c.if-number-ne0.false)).0
 
 pub returns : goal.returns
 unfolding event_call
-returns c = numbers.taken _ _ _ (c.event_refusal-number.ensures _) c.if-number-ne0.false (calls.runs_from _ _ _ _ (calls.vector_is _ _ (omega arith) c.input-vector.ensures) c.if-vector-eq0.false (rw c.event_of.ensures (calls.event_is _ _ c.run-end.result ∙ c.run-end.ensures.0)))
+returns c = numbers.taken _ _ _ (c.event_refusal-number.ensures _) c.if-number-ne0.false (calls.runs_from _ _ _ _ (calls.vector_is _ _ (omega arith) c.input-vector.ensures) (λ z. omega arith) (rw c.event_of.ensures (calls.event_is _ _ c.run-end.result ∙ c.run-end.ensures.0)))

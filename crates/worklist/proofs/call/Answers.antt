@@ -45,19 +45,19 @@ pub bounds-routines-entry-then-known-lt-RETURNED : goal.bounds-routines-entry-th
 bounds-routines-entry-then-known-lt-RETURNED c = omega (arith, returning.target-inside _ _ _ _ _ _ _ c.requires.0 _ c.requires.1 c.requires.4 _ _ c.requires.2 c.requires.3 _ c.jump_target-target.ensures _ _ _ (worklist.is_marked_lem _ _ _ _ _ _ _ _ _ _ c.reach.result _ c.in-Queued.is c.reach.ensures) _ c.wide-entry.ensures)
 
 pub returns-then-known-lt-RETURNED : goal.returns-then-known-lt-RETURNED
-returns-then-known-lt-RETURNED c = returning.no_return _ _ _ _ _ _ _ c.requires.0 _ c.requires.1 c.requires.4 _ _ c.requires.2 c.requires.3 _ c.jump_target-target.ensures _ _ _ (worklist.is_marked_lem _ _ _ _ _ _ _ _ _ _ c.reach.result _ c.in-Queued.is c.reach.ensures) _ c.wide-entry.ensures c.if-known-lt-RETURNED.true
+returns-then-known-lt-RETURNED c = returning.no_return _ _ _ _ _ _ _ c.requires.0 _ c.requires.1 c.requires.4 _ _ c.requires.2 c.requires.3 _ c.jump_target-target.ensures _ _ _ (worklist.is_marked_lem _ _ _ _ _ _ _ _ _ _ c.reach.result _ c.in-Queued.is c.reach.ensures) _ c.wide-entry.ensures (omega arith)
 
 pub overflow_mul-back : goal.overflow_mul-back
-overflow_mul-back c = omega (arith, returning.from-inside _ _ _ _ _ _ _ c.requires.0 _ c.requires.1 c.requires.4 _ _ c.requires.2 c.requires.3 _ c.jump_target-target.ensures _ _ _ (worklist.is_marked_lem _ _ _ _ _ _ _ _ _ _ c.reach.result _ c.in-Queued.is c.reach.ensures) _ c.wide-entry.ensures c.if-known-lt-RETURNED.false _ c.wide-from.ensures, c.requires.0.list.most)
+overflow_mul-back c = omega (arith, returning.from-inside _ _ _ _ _ _ _ c.requires.0 _ c.requires.1 c.requires.4 _ _ c.requires.2 c.requires.3 _ c.jump_target-target.ensures _ _ _ (worklist.is_marked_lem _ _ _ _ _ _ _ _ _ _ c.reach.result _ c.in-Queued.is c.reach.ensures) _ c.wide-entry.ensures (omega arith) _ c.wide-from.ensures, c.requires.0.list.most)
 
 pub overflow_add-back : goal.overflow_add-back
-overflow_add-back c = omega (arith, returning.from-inside _ _ _ _ _ _ _ c.requires.0 _ c.requires.1 c.requires.4 _ _ c.requires.2 c.requires.3 _ c.jump_target-target.ensures _ _ _ (worklist.is_marked_lem _ _ _ _ _ _ _ _ _ _ c.reach.result _ c.in-Queued.is c.reach.ensures) _ c.wide-entry.ensures c.if-known-lt-RETURNED.false _ c.wide-from.ensures, c.requires.0.list.most)
+overflow_add-back c = omega (arith, returning.from-inside _ _ _ _ _ _ _ c.requires.0 _ c.requires.1 c.requires.4 _ _ c.requires.2 c.requires.3 _ c.jump_target-target.ensures _ _ _ (worklist.is_marked_lem _ _ _ _ _ _ _ _ _ _ c.reach.result _ c.in-Queued.is c.reach.ensures) _ c.wide-entry.ensures (omega arith) _ c.wide-from.ensures, c.requires.0.list.most)
 
 pub bounds-sheet-from : goal.bounds-sheet-from
-bounds-sheet-from c = omega (arith, returning.from_record _ _ _ _ _ _ _ c.requires.0 _ c.requires.1 c.requires.4 _ _ c.requires.2 c.requires.3 _ c.jump_target-target.ensures _ _ _ (worklist.is_marked_lem _ _ _ _ _ _ _ _ _ _ c.reach.result _ c.in-Queued.is c.reach.ensures) _ c.wide-entry.ensures c.if-known-lt-RETURNED.false _ c.wide-from.ensures)
+bounds-sheet-from c = omega (arith, returning.from_record _ _ _ _ _ _ _ c.requires.0 _ c.requires.1 c.requires.4 _ _ c.requires.2 c.requires.3 _ c.jump_target-target.ensures _ _ _ (worklist.is_marked_lem _ _ _ _ _ _ _ _ _ _ c.reach.result _ c.in-Queued.is c.reach.ensures) _ c.wide-entry.ensures (omega arith) _ c.wide-from.ensures)
 
 pub come_back-requires : goal.come_back-requires
-come_back-requires c = returning.come_asks _ _ _ _ _ _ _ c.requires.0 _ c.requires.1 c.requires.4 _ _ c.requires.2 c.requires.3 _ c.jump_target-target.ensures _ _ _ (worklist.is_marked_lem _ _ _ _ _ _ _ _ _ _ c.reach.result _ c.in-Queued.is c.reach.ensures) _ c.wide-entry.ensures c.if-known-lt-RETURNED.false _ c.wide-from.ensures
+come_back-requires c = returning.come_asks _ _ _ _ _ _ _ c.requires.0 _ c.requires.1 c.requires.4 _ _ c.requires.2 c.requires.3 _ c.jump_target-target.ensures _ _ _ (worklist.is_marked_lem _ _ _ _ _ _ _ _ _ _ c.reach.result _ c.in-Queued.is c.reach.ensures) _ c.wide-entry.ensures (omega arith) _ c.wide-from.ensures
 
 pub returns : goal.returns
-returns c = returning.come_visited _ _ _ _ _ _ _ c.requires.0 _ c.requires.1 c.requires.4 _ _ c.requires.2 c.requires.3 _ c.jump_target-target.ensures _ _ _ (worklist.is_marked_lem _ _ _ _ _ _ _ _ _ _ c.reach.result _ c.in-Queued.is c.reach.ensures) _ c.wide-entry.ensures c.if-known-lt-RETURNED.false _ c.wide-from.ensures _ _ c.come_back.result c.come_back.ensures
+returns c = returning.come_visited _ _ _ _ _ _ _ c.requires.0 _ c.requires.1 c.requires.4 _ _ c.requires.2 c.requires.3 _ c.jump_target-target.ensures _ _ _ (worklist.is_marked_lem _ _ _ _ _ _ _ _ _ _ c.reach.result _ c.in-Queued.is c.reach.ensures) _ c.wide-entry.ensures (omega arith) _ c.wide-from.ensures _ _ c.come_back.result c.come_back.ensures

@@ -42,19 +42,19 @@ pub returns-in_default-reach : goal.returns-in_default-reach
 returns-in_default-reach c = worklist.tells _ _ _ _ _ _ _ _ _ _ c.refuted-in_default-reach.result c.refuted-in_default-reach.ensures (visits.next_astray _ _ _ _ c.requires.0 _ c.requires.1 _ _ c.requires.2 c.requires.3 _ _ c.requires.4 c.requires.5 c.requires.6 c.requires.7 c.if-byte-eq-BRK.false c.if-byte-eq-JMI.false _ (worklist.is_astray _ _ _ _ _ _ _ _ _ _ c.reach-2.result c.in_default-reach.is c.reach-2.ensures))
 
 pub returns-then-byte-ne-JCI : goal.returns-then-byte-ne-JCI
-returns-then-byte-ne-JCI c = visits.next_ends _ _ _ _ c.requires.0 _ c.requires.1 _ _ c.requires.2 c.requires.3 _ _ c.requires.4 c.requires.5 c.requires.6 c.requires.7 _ _ _ c.if-byte-eq-BRK.false c.if-byte-eq-JMI.false c.if-byte-ne-JCI.true (worklist.is_marked_lem _ _ _ _ _ _ _ _ _ _ c.reach-2.result _ c.in-Queued-reach.is c.reach-2.ensures)
+returns-then-byte-ne-JCI c = visits.next_ends _ _ _ _ c.requires.0 _ c.requires.1 _ _ c.requires.2 c.requires.3 _ _ c.requires.4 c.requires.5 c.requires.6 c.requires.7 _ _ _ c.if-byte-eq-BRK.false c.if-byte-eq-JMI.false (λ z. omega arith) (worklist.is_marked_lem _ _ _ _ _ _ _ _ _ _ c.reach-2.result _ c.in-Queued-reach.is c.reach-2.ensures)
 
 pub jump_target-target-requires-2 : goal.jump_target-target-requires-2
-jump_target-target-requires-2 c = visits.jci_inside _ _ _ _ c.requires.0 _ c.requires.1 _ _ c.requires.2 c.if-byte-ne-JCI.false
+jump_target-target-requires-2 c = visits.jci_inside _ _ _ _ c.requires.0 _ c.requires.1 _ _ c.requires.2 (omega arith)
 
 pub reach-requires-3 : goal.reach-requires-3
-reach-requires-3 c = ((worklist.is_marked_lem _ _ _ _ _ _ _ _ _ _ c.reach-2.result _ c.in-Queued-reach.is c.reach-2.ensures).0.list, visits.led_branch _ _ _ _ c.requires.0 _ c.requires.1 _ _ c.requires.2 c.requires.3 _ _ c.requires.4 c.requires.5 c.requires.6 c.requires.7 c.if-byte-ne-JCI.false _ c.jump_target-target-2.ensures, inr (worklist.grown-rooted _ _ _ (worklist.is_marked_lem _ _ _ _ _ _ _ _ _ _ c.reach-2.result _ c.in-Queued-reach.is c.reach-2.ensures).0.grown _ _ (visits.root_after _ _ _ _ c.requires.0 _ c.requires.1 _ _ c.requires.2 c.requires.3 _ c.requires.5)))
+reach-requires-3 c = ((worklist.is_marked_lem _ _ _ _ _ _ _ _ _ _ c.reach-2.result _ c.in-Queued-reach.is c.reach-2.ensures).0.list, visits.led_branch _ _ _ _ c.requires.0 _ c.requires.1 _ _ c.requires.2 c.requires.3 _ _ c.requires.4 c.requires.5 c.requires.6 c.requires.7 (omega arith) _ c.jump_target-target-2.ensures, inr (worklist.grown-rooted _ _ _ (worklist.is_marked_lem _ _ _ _ _ _ _ _ _ _ c.reach-2.result _ c.in-Queued-reach.is c.reach-2.ensures).0.grown _ _ (visits.root_after _ _ _ _ c.requires.0 _ c.requires.1 _ _ c.requires.2 c.requires.3 _ c.requires.5)))
 
 pub refuted-requires-in_default-reach-2 : goal.refuted-requires-in_default-reach-2
 refuted-requires-in_default-reach-2 c = (worklist.marked-low _ _ _ _ c.requires.0 _ c.requires.1, omega arith)
 
 pub returns-in_default-reach-2 : goal.returns-in_default-reach-2
-returns-in_default-reach-2 c = worklist.tells _ _ _ _ _ _ _ _ _ _ c.refuted-in_default-reach-2.result c.refuted-in_default-reach-2.ensures (visits.branch_astray _ _ _ _ c.requires.0 _ c.requires.1 _ _ _ (worklist.is_marked_lem _ _ _ _ _ _ _ _ _ _ c.reach-2.result _ c.in-Queued-reach.is c.reach-2.ensures).0 _ _ c.requires.2 c.requires.3 _ _ c.requires.4 c.requires.5 c.requires.6 c.requires.7 c.if-byte-ne-JCI.false _ _ c.jump_target-target-2.ensures (worklist.is_astray _ _ _ _ _ _ _ _ _ _ c.reach-3.result c.in_default-reach-2.is c.reach-3.ensures))
+returns-in_default-reach-2 c = worklist.tells _ _ _ _ _ _ _ _ _ _ c.refuted-in_default-reach-2.result c.refuted-in_default-reach-2.ensures (visits.branch_astray _ _ _ _ c.requires.0 _ c.requires.1 _ _ _ (worklist.is_marked_lem _ _ _ _ _ _ _ _ _ _ c.reach-2.result _ c.in-Queued-reach.is c.reach-2.ensures).0 _ _ c.requires.2 c.requires.3 _ _ c.requires.4 c.requires.5 c.requires.6 c.requires.7 (omega arith) _ _ c.jump_target-target-2.ensures (worklist.is_astray _ _ _ _ _ _ _ _ _ _ c.reach-3.result c.in_default-reach-2.is c.reach-3.ensures))
 
 pub returns : goal.returns
-returns c = visits.branch_ends _ _ _ _ c.requires.0 _ c.requires.1 _ _ c.requires.2 c.requires.3 _ _ c.requires.4 c.requires.5 c.requires.6 c.requires.7 _ _ _ c.if-byte-ne-JCI.false (worklist.is_marked_lem _ _ _ _ _ _ _ _ _ _ c.reach-2.result _ c.in-Queued-reach.is c.reach-2.ensures) _ _ _ _ c.jump_target-target-2.ensures (worklist.is_marked_lem _ _ _ _ _ _ _ _ _ _ c.reach-3.result _ c.in-Queued-reach-2.is c.reach-3.ensures)
+returns c = visits.branch_ends _ _ _ _ c.requires.0 _ c.requires.1 _ _ c.requires.2 c.requires.3 _ _ c.requires.4 c.requires.5 c.requires.6 c.requires.7 _ _ _ (omega arith) (worklist.is_marked_lem _ _ _ _ _ _ _ _ _ _ c.reach-2.result _ c.in-Queued-reach.is c.reach-2.ensures) _ _ _ _ c.jump_target-target-2.ensures (worklist.is_marked_lem _ _ _ _ _ _ _ _ _ _ c.reach-3.result _ c.in-Queued-reach-2.is c.reach-3.ensures)
