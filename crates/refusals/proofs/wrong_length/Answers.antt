@@ -1,9 +1,11 @@
 -- `refusals::wrong_length` meets its contract. Assumes nothing.
+use native.Mathlib.Omega.{arith}
+use Rattle.model.specs.Machine.{state}
 use Rattle.refusals.proofs.Refusals as laws
 use Rattle.refusals.proofs.wrong_length.Goals as goal
 
 pub returns-then-memory-ne-MEMORY_SIZE : goal.returns-then-memory-ne-MEMORY_SIZE
-returns-then-memory-ne-MEMORY_SIZE c m = laws.memory_wrong _ c.if-memory-ne-MEMORY_SIZE.true
+returns-then-memory-ne-MEMORY_SIZE c m = omega (arith, laws.memory_wrong (state c.args.memory.now c.args.devices.now c.args.work.now c.args.ret.now m) c.if-memory-ne-MEMORY_SIZE.true)
 
 pub returns-then-devices-ne-PAGE_SIZE : goal.returns-then-devices-ne-PAGE_SIZE
 returns-then-devices-ne-PAGE_SIZE c m = laws.devices_wrong _ c.if-memory-ne-MEMORY_SIZE.false c.if-devices-ne-PAGE_SIZE.true
