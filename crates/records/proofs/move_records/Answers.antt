@@ -18,7 +18,7 @@ returns-then-output-room c = calls.move_short _ _ _ _ (omega arith) c.some_broke
 
 pub fit_records-requires : goal.fit_records-requires
 unfolding moved_file
-fit_records-requires c = (omega (arith, c.requires.0), (omega arith), calls.move_room c.args.from c.args.to c.args.file.now c.args.output.now c.requires.1 (omega arith) (omega (arith, c.requires.0)) (omega arith))
+fit_records-requires c = (omega (arith, c.requires.0), omega arith, calls.move_room c.args.from c.args.to c.args.file.now c.args.output.now c.requires.1 (omega arith) (omega (arith, c.requires.0)) (omega arith))
 
 pub overflow_mul-result : goal.overflow_mul-result
 overflow_mul-result c = omega (arith, calls.move_fits c.args.from c.args.to c.args.file.now c.args.output.now c.requires.1 (omega arith))
