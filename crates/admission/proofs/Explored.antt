@@ -18,7 +18,7 @@ use Rattle.worklist.specs.Worklist.{Marks, Obeyed, Listed, Extended, placed, Cal
 use Rattle.worklist.proofs.Sheets.{with_mark, sheet-set}
 use Rattle.worklist.proofs.Returns.{other-visited}
 use Rattle.worklist.proofs.Waits.{same_return}
-use Rattle.admission.specs.declared.Stop.{Stop}
+use Rattle.std.specs.Prelude.{Ok}
 use Rattle.admission.specs.Explored.{OfRoutines, Going, Walked}
 use Rattle.admission.proofs.Blank.{blank, zero-at}
 use Rattle.worklist.proofs.Worklist.{same_parts, place_mark, marks_are, goes_on_lem, queue_most, grown-led, grown-floor}
@@ -182,7 +182,7 @@ module _ (program sheet queue : List ℕ) (first listed : ℕ) (sheet₁ queue�
     walk_here = rw is-i (walk.list.listed head h)
 
     pub walk_met : OfRoutines (get_or program i 0)
-        → Walked program sheet queue first listed sheet₁ queue₁ (Stop.At head tail)
+        → Walked program sheet queue first listed sheet₁ queue₁ (Ok (record { head = head; tail = tail }))
     walk_met o = (λ l. rw is-i at o, walk.low, walk.went)
 
     pub walk_next : (get_or program i 0 ≡ 0x60 → ⊥) → (get_or program i 0 ≡ 0x6C → ⊥) → (sheet₂ queue₂ : List ℕ) (tail₂ : ℕ)
@@ -207,7 +207,7 @@ module _ (program sheet queue : List ℕ) (first listed : ℕ) (sheet₁ queue�
 -- to the end of the queue
 pub walk_done : (program sheet queue : List ℕ) (first listed : ℕ) (sheet₁ queue₁ : List ℕ) (head tail : ℕ)
     → Walking program sheet queue first listed sheet₁ queue₁ head tail → tail ≤ head
-    → Walked program sheet queue first listed sheet₁ queue₁ (Stop.At head tail)
+    → Walked program sheet queue first listed sheet₁ queue₁ (Ok (record { head = head; tail = tail }))
 walk_done program sheet queue first listed sheet₁ queue₁ head tail walk end = (λ l. absurd (omega arith), walk.low, walk.went)
 
 -- ---- after the last: the sheet is the smallest one

@@ -1,18 +1,17 @@
 -- What the functions of admission answer, and what they keep. Inside the crate only: the contracts of `admit` and `explain` do not
 -- cite it.
 -- Assumes nothing.
-use Rattle.std.specs.Prelude.{◌≡◌, ◌⊎◌, List, ℕ, ◌+◌, ◌≤◌, ◌<◌, get_or}
+use Rattle.std.specs.Prelude.{◌≡◌, ◌⊎◌, List, ℕ, ◌+◌, ◌≤◌, ◌<◌, get_or, Result, Ok, Err}
 use Rattle.model.specs.Instruction.{length_of}
 use Rattle.model.specs.Admission.{Smallest}
-use Rattle.worklist.specs.Worklist.{Obeyed, Listed, Tested, placed, Waiting, Fails, ToldIn}
-use Rattle.worklist.specs.declared.Next.{Next}
+use Rattle.worklist.specs.Worklist.{Obeyed, Listed, Tested, placed, Waiting, Fails, Failing, ToldIn}
 use Rattle.admission.specs.declared.Depths.{Depths}
 use Rattle.admission.specs.declared.Stop.{Stop}
 
 -- A rule fails at place i with the depths of its record, or those of the instruction by itself hold.
-abbrev pub Judged : (program sheet : List ℕ) → ℕ → Depths → Type 0
-Judged program sheet i (Depths.Fails rule) = Fails program sheet rule i 0
-Judged program sheet i (Depths.After after work ret) = Tested program sheet i work ret × (after ≡ i + length_of (get_or program i 0))
+abbrev pub Judged : (program sheet : List ℕ) → ℕ → Result Depths Failing → Type 0
+Judged program sheet i (Err fault) = (fault.at ≡ i) × (fault.other ≡ 0) × Fails program sheet fault.rule i 0
+Judged program sheet i (Ok d) = Tested program sheet i d.work d.ret × (d.after ≡ i + length_of (get_or program i 0))
 
 -- The addresses before place `head` of the queue obey the rules, those from there on are still to be visited.
 pub record Going (program sheet queue : List ℕ) (head tail : ℕ) (routines before : List ℕ) : Type 0 where
@@ -30,14 +29,14 @@ abbrev pub Met : (program queue : List ℕ) → ℕ → ℕ → Type 0
 Met program queue head tail = head < tail → OfRoutines (get_or program (get_or queue head 0) 0)
 
 -- A rule fails, or the walk went on from place `first` to place `head`, whatever calls wait.
-abbrev pub Walked : (program sheet queue : List ℕ) → ℕ → ℕ → (sheet_after queue_after : List ℕ) → Stop → Type 0
-Walked program sheet queue first listed sheet_after queue_after (Stop.Refuted n) = ToldIn program sheet_after n
-Walked program sheet queue first listed sheet_after queue_after (Stop.At head tail) =
-    Met program queue_after head tail
-    × (first ≤ head)
-    × ((routines before : List ℕ) → Going program sheet queue first listed routines before → Going program sheet_after queue_after head tail routines before)
+abbrev pub Walked : (program sheet queue : List ℕ) → ℕ → ℕ → (sheet_after queue_after : List ℕ) → Result Stop Failing → Type 0
+Walked program sheet queue first listed sheet_after queue_after (Err fault) = ToldIn program sheet_after fault
+Walked program sheet queue first listed sheet_after queue_after (Ok stop) =
+    Met program queue_after stop.head stop.tail
+    × (first ≤ stop.head)
+    × ((routines before : List ℕ) → Going program sheet queue first listed routines before → Going program sheet_after queue_after stop.head stop.tail routines before)
 
 -- A rule fails, or the sheet is the smallest one.
-abbrev pub Explored : List ℕ → List ℕ → Next → Type 0
-Explored program sheet (Next.Refuted n) = ToldIn program sheet n
-Explored program sheet (Next.Queued t) = Smallest program sheet
+abbrev pub Explored : List ℕ → List ℕ → Result ℕ Failing → Type 0
+Explored program sheet (Err fault) = ToldIn program sheet fault
+Explored program sheet (Ok t) = Smallest program sheet

@@ -7,12 +7,11 @@ ghost use Rattle.model.specs.Instruction.Arithmetic.{DIV};
 ghost use Rattle.model.specs.Step as model;
 ghost use Rattle.alu.specs.Numbers.{arithmetic_at, comparison_at};
 
-use std::num::{wrapping_add_u16, wrapping_sub_u16};
-
 // MUL, "low 8 or 16 bits kept". C-13: "by shifts and adds", a turn for each bit of the smaller number: 16 at most, 8 if it has no more bits.
 pub fn product(a: u16, b: u16) -> u16
     ensures { result ≡ (a * b) % 65536 }
 {
+    // by hand: with `max` and `min` the run has other branches, and a step costs 0.2 instructions more in the mean of the workloads
     let mut term = a;
     let mut rest = b;
     if a < b {
@@ -23,7 +22,7 @@ pub fn product(a: u16, b: u16) -> u16
     // What stays: sum + term * rest is the product, modulo 65,536.
     while rest > 0 {
         if rest % 2 == 1 {
-            sum = wrapping_add_u16(sum, term);
+            sum = sum.wrapping_add(term);
         }
         term = term << 1;
         rest = rest >> 1;
@@ -32,19 +31,22 @@ pub fn product(a: u16, b: u16) -> u16
 }
 
 // DIV, "by 0 gives 0".
+#[tactic(auto, unfolding(model::specs::Step::computed))]
 pub fn quotient(a: u16, b: u16) -> u16
     ensures { result ≡ model.computed DIV a b }
 {
     if b == 0 { 0 } else { a / b }
 }
 
-// The operations 18 to 1E, as o = 0 to 6: the low 16 bits.
+// The operations 18 to 1E, as o = 0 to 6: the low 16 bits. Here and in `compared` o stays a number: each u8 has its promise, and an enum would
+// take seven of them.
+#[tactic(auto, unfolding(model::specs::Step::computed))]
 pub fn computed(o: u8, a: u16, b: u16) -> u16
     ensures { result ≡ model.computed (arithmetic_at o) a b % 65536 }
 {
     match o {
-        0 => wrapping_add_u16(a, b),
-        1 => wrapping_sub_u16(a, b),
+        0 => a.wrapping_add(b),
+        1 => a.wrapping_sub(b),
         2 => product(a, b),
         3 => quotient(a, b),
         4 => a & b,
@@ -54,6 +56,7 @@ pub fn computed(o: u8, a: u16, b: u16) -> u16
 }
 
 // The operations 08 to 0B, as o = 0 to 3: "compare, unsigned".
+#[tactic(auto, unfolding(model::specs::Step::compared))]
 pub fn compared(o: u8, a: u16, b: u16) -> bool
     ensures { result ≡ model.compared (comparison_at o) a b }
 {
@@ -69,10 +72,11 @@ pub fn compared(o: u8, a: u16, b: u16) -> bool
 pub fn flag(b: bool) -> u16
     ensures { result ≡ model.flag b }
 {
-    if b { 1 } else { 0 }
+    u16::from(b)
 }
 
 // SFT: "right by the low nibble, then left by the high nibble", the low 16 bits.
+#[tactic(auto, unfolding(model::specs::Step::shifted))]
 pub fn shifted(a: u16, by: u16) -> u16
     ensures { result ≡ model.shifted a by % 65536 }
 {
@@ -87,13 +91,15 @@ fn extension(v: u16) -> u16
 }
 
 // An 8-bit relative address, "signed, -128 to 127, from the address just after the instruction byte".
+#[tactic(auto, unfolding(model::specs::Step::relative))]
 pub fn relative(next: u16, v: u16) -> u16
     ensures { result ≡ model.relative next v }
 {
-    wrapping_add_u16(wrapping_add_u16(next, v), extension(v))
+    next.wrapping_add(v).wrapping_add(extension(v))
 }
 
 // "A jump address of 16 bits is absolute; of 8 bits it is" relative.
+#[tactic(auto, unfolding(model::specs::Step::address, model::specs::Instruction::size))]
 pub fn address(next: u16, wide: bool, v: u16) -> u16
     ensures { result ≡ model.address (size wide) next v }
 {

@@ -11,7 +11,7 @@ use Rattle.model.specs.Machine.{State}
 use Rattle.model.specs.Run.{Reply}
 use Rattle.model.specs.Calls.{frame_size, frame_call}
 use Rattle.text.specs.Lines.{line}
-use Rattle.blocks.specs.Frames.{frame_budget, whole_records, frame_at, machine_after, first_lines, judged, further}
+use Rattle.blocks.specs.Frames.{frame_budget, whole_records, frame_at, machine_after, first_lines, judged, behind, further}
 
 -- the part of the records that is lent
 lent_is : (records : List ℕ) (k : ℕ)
@@ -29,9 +29,12 @@ module _ (records : List ℕ) (s now : State) (k : ℕ) (r : Reply) (before : no
   unfolding machine_after
   state-more t e = rw add-one (sym e ∙ ap (λ (q : Reply). q.state) call_is)
 
-  pub lines_more : (x y : List ℕ) → x ≡ first_lines records s k → y ≡ x ++ line r → y ≡ first_lines records s (k + 1)
+  pub lines_more : (before x y : List ℕ) → x ≡ before ++ first_lines records s k → y ≡ x ++ line r → y ≡ before ++ first_lines records s (k + 1)
   unfolding first_lines
-  lines_more x y hx hy = rw add-one (hy ∙ rw hx (ap (λ (q : Reply). first_lines records s k ++ line q) call_is))
+  lines_more before x y hx hy =
+      rw add-one
+      (hy ∙ rw hx (ap (λ (q : Reply). (before ++ first_lines records s k) ++ line q) call_is)
+      ∙ append_assoc before (first_lines records s k) _)
 
 -- ---- records that come in two blocks, the first of k whole records: as if they came in one
 
@@ -142,9 +145,9 @@ waiting_is n w block moved l e h =
     let t : take n block ≡ take (n - w) block ++ take w (drop (n - w) block) = rw q at (take-add (n - w) w block) in
     rw (g, t, drop_at (take (n - w) block) (take w (drop (n - w) block)) (n - w) p) (rw m at h)
 
-pub worked : (n w : ℕ) (block moved out : List ℕ) (s t : State) → n ≤ length block → w ≡ n % frame_size
+pub worked : (n w : ℕ) (block moved before out : List ℕ) (s t : State) → n ≤ length block → w ≡ n % frame_size
     → take (n - (n - w)) moved ≡ take (n - (n - w)) (drop (n - w) block)
-    → t ≡ machine_after (take n block) s (whole_records (take n block)) → out ≡ first_lines (take n block) s (whole_records (take n block))
-    → record { machine = t; lines = out; waiting = take w moved } ≡ judged (take n block) s
+    → t ≡ machine_after (take n block) s (whole_records (take n block)) → out ≡ before ++ first_lines (take n block) s (whole_records (take n block))
+    → record { machine = t; lines = out; waiting = take w moved } ≡ behind before (judged (take n block) s)
 unfolding judged
-worked n w block moved out s t l e h f g = rw (f, g, waiting_is n w block moved l e h)
+worked n w block moved before out s t l e h f g = rw (f, g, waiting_is n w block moved l e h)

@@ -41,6 +41,10 @@ judged bytes s =
       waiting = drop (frame_size * whole_records bytes) bytes;
     }
 
+-- the same with its lines behind others
+abbrev pub behind : List ℕ → Judged → Judged
+behind lines j = record { machine = j.machine; lines = lines ++ j.lines; waiting = j.waiting }
+
 -- when further bytes come: they are judged behind those that wait, on the machine as it is then
 unfoldable pub further : Judged → List ℕ → Judged
 further j came =

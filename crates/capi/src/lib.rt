@@ -1,5 +1,5 @@
 // The calls as a static library for C: include/uxn_filter.h declares them, and says what each number means; include/uxn_bench.h declares
-// the plain load.
+// the plain load. C calls each by its name, with each buffer for itself.
 #![tactic(auto)]
 
 ghost use Rattle.std.specs.Prelude.{◌≡◌};

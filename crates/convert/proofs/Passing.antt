@@ -31,6 +31,3 @@ module _ (direction : Direction) (number k : ℕ) (block : List ℕ) (s : SoFar 
       whole : (direction : Direction) → length s.0 % (from_form direction).size ≡ 0 → length (s.0 ++ block) % (from_form direction).size ≡ 0
       whole Direction.Widen w = rw long (omega arith)
       whole Direction.Narrow w = rw long (omega arith)
-
-pub so_far : (direction : Direction) (number : ℕ) → SoFar direction number → FileCame direction number
-so_far direction number s = (s.0, s.2)

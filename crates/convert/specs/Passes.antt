@@ -1,6 +1,6 @@
 -- What the contracts of a pass over a file cite. No contract can say which bytes a read brings: it says that some came, and what they come
 -- to. Assumes nothing.
-use Rattle.std.specs.Prelude.{◌≡◌, ℕ, List}
+use Rattle.std.specs.Prelude.{◌≡◌, ℕ, List, Option, Some, None}
 use Rattle.records.specs.Blocks.{file_number}
 use Rattle.records.specs.declared.Direction.{Direction}
 use Rattle.convert.specs.declared.Passed.{Passed}
@@ -9,6 +9,6 @@ use Rattle.convert.specs.declared.Passed.{Passed}
 abbrev pub FileCame : Direction → ℕ → Type 0
 FileCame direction number = (bytes : List ℕ) × (number ≡ file_number direction bytes)
 
-abbrev pub PassOf : Direction → Passed → Type 0
-PassOf direction (Passed.Ended number total) = FileCame direction number
-PassOf direction Passed.Failed = Unit {0}
+abbrev pub PassOf : Direction → Option Passed → Type 0
+PassOf direction (Some passed) = FileCame direction passed.number
+PassOf direction None = Unit {0}

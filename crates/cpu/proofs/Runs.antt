@@ -1,6 +1,6 @@
 -- An instruction by its byte, the high marks, and a run from the steps of its loop. Assumes nothing.
-use Rattle.std.proofs.Common.{◌≡◌, ℕ, zero, suc, ◌+◌, ◌-◌, ◌/◌, ◌%◌, ◌<◌, ◌≤◌, Bool, true, false, cond, eqb, ltb, leb, List, [], ◌∷◌, sym, refl, ap, ◌∙◌, arith, ltb-false, ltb-true, le-ltb, lt-ltb, eq-eqb, ne_eqb, leb-false, leb-true}
-use Rattle.model.specs.Bytes.{one_of, places_ring, greater}
+use Rattle.std.proofs.Common.{◌≡◌, ℕ, zero, suc, ◌+◌, ◌-◌, ◌/◌, ◌%◌, ◌<◌, ◌≤◌, Bool, true, false, cond, eqb, Option, ltb, leb, List, [], ◌∷◌, sym, refl, ap, ◌∙◌, arith, ltb-false, ltb-true, le-ltb, lt-ltb, eq-eqb, ne_eqb, leb-false, leb-true}
+use Rattle.model.specs.Bytes.{one_of, places_ring}
 use Rattle.model.specs.Machine.{page_size, State}
 use Rattle.model.specs.Instruction.{wide, size, return_mode}
 use Rattle.model.specs.Instruction.Op.{DEO}
@@ -8,15 +8,15 @@ use Rattle.model.specs.Step.{effect_on, exchanged, execute, raised, fetched, ste
 use Rattle.model.specs.Run.{Reply, reply, more, pauses, run}
 use Rattle.model.specs.Run.Answer.{WentOn, Broke, Spent}
 use Rattle.model.specs.declared.Machine.{Machine}
-use Rattle.model.specs.declared.Watch.{Watch}
 use Rattle.model.proofs.Runs.{run_broke, run_paused, run_on}
 use Rattle.model.proofs.Pauses.{no_ports, deo_ports}
 use Rattle.operations.proofs.Arms.{went}
 use Rattle.operations.specs.After.{executed, byte_of}
 use Rattle.execute.specs.Stepped.{of_stepped}
 use Rattle.execute.specs.declared.Stepped.{Stepped}
+use Rattle.execute.specs.declared.Sent.{Sent}
 use Rattle.cpu.specs.declared.End.{End}
-use Rattle.cpu.specs.Ended.{carried_out, raised_record, unspent, of_end, ended_by}
+use Rattle.cpu.specs.Ended.{carried_out, raised_record, of_end}
 
 -- ---- the byte from its low seven bits and bit 7
 
@@ -27,18 +27,6 @@ whole b false l h = let g = leb-false 128 b h in omega arith
 pub carries_out : (s : State) {t : Reply} → fetched s < 256 → t ≡ executed (byte_of (fetched s % 128) (leb 128 (fetched s))) s → t ≡ carried_out s
 unfolding carried_out
 carries_out s l h = rw (whole (fetched s) (leb 128 (fetched s)) l refl) at h
-
--- ---- the high marks
-
-pub greater_second : (a b : ℕ) → a < b → b ≡ greater a b
-greater_second a b l = rw (lt-ltb a b l)
-
-pub greater-first : (a b : ℕ) → b ≤ a → a ≡ greater a b
-greater-first a b l = rw (le-ltb a b l)
-
--- a record that has no pointer above its mark
-pub unraised : (m : Machine) → m.wp ≤ m.wp_high → m.rp ≤ m.rp_high → m ≡ raised_record m
-unraised m w r = rw (le-ltb _ _ w, le-ltb _ _ r)
 
 -- ---- the ports that a step writes
 
@@ -79,11 +67,6 @@ module _ (s : State) where
 
 -- ---- the loop, with n of the budget not spent
 
-pub starts : (watch : Watch) (budget : ℕ) (s : State) → more (budget - budget) (run watch budget s) ≡ run watch budget s
-starts watch budget s =
-    let e : budget - budget + (run watch budget s).steps ≡ (run watch budget s).steps = omega arith in
-    rw e
-
 -- the answer, the state and the ports of equal replies
 pub answers : {r t : Reply} → r ≡ t → r.answer ≡ t.answer
 answers h = ap (λ (x : Reply). x.answer) h
@@ -108,41 +91,35 @@ raises : (s t : State) → execute (fetched s) s ≡ t → step s ≡ raised t
 unfolding step
 raises s t e = ap raised e
 
-module _ (watch : Watch) (budget n k : ℕ) (d : n ≡ suc k) (b : n ≤ budget) (s : State) (state_of : Machine → State) where
+module _ (watch : Option ℕ) (budget n k : ℕ) (d : n ≡ suc k) (b : n ≤ budget) (s : State) (state_of : Machine → State) where
   -- the step went on: the run goes on, unless the step wrote what is watched
-  module _ (next : Machine) (port sent : ℕ) {a : Stepped} (e : a ≡ Stepped.WentOn next port sent) (h : of_stepped state_of a ≡ carried_out s) where
-    pub goes_on_lem : pauses watch (places_ring page_size port sent) ≡ false
+  module _ (next : Machine) (sent : Sent) {a : Stepped} (e : a ≡ Stepped.WentOn next sent) (h : of_stepped state_of a ≡ carried_out s) where
+    pub goes_on_lem : pauses watch (places_ring page_size sent.first sent.count) ≡ false
         → more (budget - n) (run watch n s) ≡ more (budget - k) (run watch k (raised (state_of next)))
     unfolding carried_out
     goes_on_lem f =
-        let g : went port sent (state_of next) ≡ executed (fetched s) s = rw e at h in
+        let g : went sent.first sent.count (state_of next) ≡ executed (fetched s) s = rw e at h in
         let t = raised (state_of next) in
         let z : budget - suc k + suc (run watch k t).steps ≡ budget - k + (run watch k t).steps = omega arith in
         rw (d, run_on watch k s (went_on (breaks s) (answers g)) (rw (ports_are g) f), raises s (state_of next) (states g), z)
 
-    pub stops : pauses watch (places_ring page_size port sent) ≡ true → raised (state_of next) ≡ state_of (raised_record next)
+    pub stops : pauses watch (places_ring page_size sent.first sent.count) ≡ true → raised (state_of next) ≡ state_of (raised_record next)
         → of_end budget state_of (End.Paused (raised_record next) k) ≡ more (budget - n) (run watch n s)
     unfolding carried_out
     stops f u =
-        let g : went port sent (state_of next) ≡ executed (fetched s) s = rw e at h in
+        let g : went sent.first sent.count (state_of next) ≡ executed (fetched s) s = rw e at h in
         let z : budget - suc k + 1 ≡ budget - k = omega arith in
         rw (d, run_paused watch k s (went_on (breaks s) (answers g)) (rw (ports_are g) f), raises s (state_of next) (states g), ← u, z)
 
-  pub ends : ((m : Machine) → raised (state_of m) ≡ state_of (raised_record m))
-      → (a : Stepped) {m : Machine} → a ≡ Stepped.Broke m → of_stepped state_of a ≡ carried_out s
-      → of_end budget state_of (ended_by a k) ≡ more (budget - n) (run watch n s)
+  pub ends : {m : Machine} {a : Stepped} → a ≡ Stepped.Broke m → of_stepped state_of a ≡ carried_out s → raised (state_of m) ≡ state_of (raised_record m)
+      → of_end budget state_of (End.Broke (raised_record m) k) ≡ more (budget - n) (run watch n s)
   unfolding carried_out
-  ends u a {m} e h =
+  ends {m} e h u =
       let g : of_stepped state_of (Stepped.Broke m) ≡ executed (fetched s) s = rw e at h in
       let z : budget - suc k + 1 ≡ budget - k = omega arith in
-      rw (e, d, run_broke watch k s (broke (breaks s) (answers g)), raises s (state_of m) (states g), ← u m, z)
+      rw (d, run_broke watch k s (broke (breaks s) (answers g)), raises s (state_of m) (states g), ← u, z)
 
--- what is not spent at the end
-pub unspent_is : (a : Stepped) (n : ℕ) {budget : ℕ} → n ≤ budget → unspent (ended_by a n) ≤ budget
-unspent_is (Stepped.WentOn m port sent) n h = omega arith
-unspent_is (Stepped.Broke m) n h = h
-
-pub spent : (watch : Watch) (budget n : ℕ) (s : State) → n ≤ 0 → reply Spent budget 0 s ≡ more (budget - n) (run watch n s)
+pub spent : (watch : Option ℕ) (budget n : ℕ) (s : State) → n ≤ 0 → reply Spent budget 0 s ≡ more (budget - n) (run watch n s)
 unfolding run
 spent watch budget n s h =
     let z : n ≡ 0 = omega arith in

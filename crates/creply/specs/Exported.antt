@@ -1,18 +1,17 @@
 -- What a call of the static library is given to watch, and what it leaves: the reply as a C struct, and the four buffers. Assumes nothing.
-use Rattle.std.specs.Prelude.{cond, List, [], ◌∷◌, ℕ, ltb, length, get_or}
+use Rattle.std.specs.Prelude.{cond, List, [], ◌∷◌, ℕ, ltb, length, get_or, Option, Some, None}
 use Rattle.model.specs.Machine.{registers}
 use Rattle.model.specs.Run.{Answer, Reply}
 use Rattle.model.specs.Run.Answer.{Refused, Loaded, WentOn, Broke, Spent, Paused, Ignored, Admitted}
 use Rattle.model.specs.Calls.{number_of, AdmitResult, InstallResult}
 use Rattle.model.specs.Writes.{WriteResult}
 use Rattle.model.specs.declared.Machine.{Machine}
-use Rattle.model.specs.declared.Watch.{Watch}
 use Rattle.creply.specs.declared.Reply as C
 use Rattle.creply.specs.declared.Written.{Written}
 
 -- the watch of uxn_run and uxn_event: a port, or nothing, as UXN_WATCH_NONE and every number above 255
-abbrev pub watch_of : ℕ → Watch
-watch_of n = cond (ltb n 256) (Watch.Port n) Watch.Nothing
+abbrev pub watch_of : ℕ → Option ℕ
+watch_of n = cond (ltb n 256) (Some n) None
 
 pub record Returned : Type 0 where
   pub reply : C.Reply

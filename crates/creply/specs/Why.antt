@@ -1,9 +1,10 @@
 -- What uxn_explain returns: why a program is refused, as a C struct. Assumes nothing.
-use Rattle.std.specs.Prelude.{◌≡◌, List, ℕ}
+use Rattle.std.specs.Prelude.{◌≡◌, List, ℕ, Option, Some, None, Result, Ok, Err}
+use Rattle.model.specs.Refusals.{refusal_number}
 use Rattle.model.specs.Reasons.{Explains}
 use Rattle.model.specs.declared.Place.{Place}
 use Rattle.model.specs.declared.Reason.{Reason}
-use Rattle.model.specs.declared.ExplainReply.{ExplainReply}
+use Rattle.model.specs.declared.Refusal.{Refusal}
 use Rattle.creply.specs.declared.Why.{Why}
 
 -- where there is no place
@@ -35,11 +36,11 @@ reason_struct (Reason.ReturnIn0100 p) = because_struct 10 0 p nowhere_place nowh
 reason_struct (Reason.ReturnOffFloor p entry) = because_struct 11 0 p nowhere_place entry
 reason_struct (Reason.ReturnsDiffer p other) = because_struct 12 0 p nowhere_place other
 
-abbrev pub why_struct : ExplainReply → Why
-why_struct (ExplainReply.Refused n) = plain_struct n
-why_struct ExplainReply.Admitted = plain_struct 0
-why_struct (ExplainReply.Because reason) = reason_struct reason
+abbrev pub why_struct : Result (Option Reason) Refusal → Why
+why_struct (Ok None) = plain_struct 0
+why_struct (Ok (Some reason)) = reason_struct reason
+why_struct (Err refusal) = plain_struct (refusal_number refusal)
 
 -- the struct is that of a reply which explains what admission answers to the program
 abbrev pub WhyOf : List ℕ → Why → Type 0
-WhyOf program why = (reply : ExplainReply) × (why ≡ why_struct reply) × Explains program reply
+WhyOf program why = (reply : Result (Option Reason) Refusal) × (why ≡ why_struct reply) × Explains program reply

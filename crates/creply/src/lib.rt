@@ -1,19 +1,17 @@
 // The replies of the calls as C structs: include/uxn_filter.h declares them.
 #![tactic(auto)]
 
-ghost use Rattle.std.specs.Prelude.{◌≡◌, List, ℕ};
+ghost use Rattle.std.specs.Prelude.{◌≡◌, List, ℕ, Ok};
 ghost use Rattle.model.specs.Machine.{state};
-ghost use Rattle.model.specs.declared.StepReply.{StepReply};
-ghost use Rattle.model.specs.Replies.{of_load, of_step, of_run, of_event, of_frame, of_admit, of_write};
+ghost use Rattle.model.specs.Refusals.{refusal_number};
+ghost use Rattle.model.specs.declared.StepEnd.{StepEnd};
+ghost use Rattle.model.specs.Replies.{of_load, of_step, of_run_end, of_run, of_event, of_frame, of_admit, of_write};
 ghost use Rattle.creply.specs.Exported.{watch_of, refused_struct, done_struct, went_on_struct, wrote_struct, returned, exported, admit_returned, exported_admit, write_returned, exported_write};
 ghost use Rattle.creply.specs.Why.{nowhere_place, plain_struct, because_struct, reason_struct, why_struct};
 
-use model::{
-    AdmitReply, EventReply, ExplainReply, FrameReply, LoadReply, Machine, Place, Ports, Reason,
-    RunReply, StepReply, Watch, WriteReply,
-};
+use model::{EventEnd, FrameEnd, Machine, Place, Ports, Reason, Refusal, Refused, RunEnd, StepEnd};
 
-// The answers, as numbers.
+// The answers, as the numbers that the C interface has.
 pub const REFUSED: u8 = 0;
 
 pub const LOADED: u8 = 1;
@@ -28,13 +26,7 @@ pub const IGNORED: u8 = 5;
 
 pub const PAUSED: u8 = 6;
 
-// The ports that may be watched are the numbers below this one.
-const PORTS: u16 = 256;
-
-// A refused admission that has a reason: no depths and routines obey the rules.
-const NO_ASSIGNMENT: u8 = 11;
-
-// The rules, as numbers.
+// The rules, as the numbers that the C interface has.
 const CUT: u8 = 1;
 
 const FORBIDDEN: u8 = 2;
@@ -96,13 +88,13 @@ pub struct Why {
     pub other: Place,
 }
 
-fn refused(number: u8, machine: Machine) -> Reply
-    ensures { result ≡ refused_struct number machine }
+fn refused(r: Refused) -> Reply
+    ensures { result ≡ refused_struct (refusal_number r.refusal) r.machine }
 {
     Reply {
-        machine,
+        machine: r.machine,
         steps: 0,
-        number,
+        number: u8::from(r.refusal),
         answer: REFUSED,
         verdict: 0,
         sent: 0,
@@ -140,7 +132,7 @@ fn went_on(machine: Machine, sent: u8, first: u8, second: u8) -> Reply
 }
 
 fn of_went_on(machine: Machine, ports: Ports) -> Reply
-    ensures { (p q w t : List ℕ) → returned result p q w t ≡ exported (of_step (state p q w t) (StepReply.WentOn machine ports)) }
+    ensures { (p q w t : List ℕ) → returned result p q w t ≡ exported (of_step (state p q w t) (Ok (StepEnd.WentOn machine ports))) }
 {
     match ports {
         Ports::None => went_on(machine, 0, 0, 0),
@@ -159,85 +151,99 @@ fn wrote(length: usize, number: u8) -> Written
     }
 }
 
-pub fn of_load(reply: LoadReply) -> Reply
+// Functions, and no `From`: for that of an admission, a number from a `Result`, no impl can be written here, and all of them have one form.
+
+pub fn of_load(reply: Result<Machine, Refused>) -> Reply
     ensures { (p q w t : List ℕ) → returned result p q w t ≡ exported (of_load (state p q w t) reply) }
 {
     match reply {
-        LoadReply::Refused(n, m) => refused(n, m),
-        LoadReply::Loaded(m) => done(LOADED, m, 0, 0),
+        Ok(m) => done(LOADED, m, 0, 0),
+        Err(r) => refused(r),
     }
 }
 
-pub fn of_step(reply: StepReply) -> Reply
+// A step that was not refused.
+fn of_step_end(end: StepEnd) -> Reply
+    ensures { (p q w t : List ℕ) → returned result p q w t ≡ exported (of_step (state p q w t) (Ok end)) }
+{
+    match end {
+        StepEnd::WentOn(m, ports) => of_went_on(m, ports),
+        StepEnd::Broke(m) => done(BROKE, m, 1, 0),
+    }
+}
+
+pub fn of_step(reply: Result<StepEnd, Refused>) -> Reply
     ensures { (p q w t : List ℕ) → returned result p q w t ≡ exported (of_step (state p q w t) reply) }
 {
     match reply {
-        StepReply::Refused(n, m) => refused(n, m),
-        StepReply::WentOn(m, ports) => of_went_on(m, ports),
-        StepReply::Broke(m) => done(BROKE, m, 1, 0),
+        Ok(end) => of_step_end(end),
+        Err(r) => refused(r),
     }
 }
 
-pub fn of_run(reply: RunReply) -> Reply
+// A run that was not refused.
+fn of_run_end(end: RunEnd) -> Reply
+    ensures { (p q w t : List ℕ) → returned result p q w t ≡ exported (of_run_end (state p q w t) end) }
+{
+    match end {
+        RunEnd::Broke(m, steps) => done(BROKE, m, steps, 0),
+        RunEnd::Spent(m, steps) => done(SPENT, m, steps, 0),
+        RunEnd::Paused(m, steps) => done(PAUSED, m, steps, 0),
+    }
+}
+
+pub fn of_run(reply: Result<RunEnd, Refused>) -> Reply
     ensures { (p q w t : List ℕ) → returned result p q w t ≡ exported (of_run (state p q w t) reply) }
 {
     match reply {
-        RunReply::Refused(n, m) => refused(n, m),
-        RunReply::Broke(m, steps) => done(BROKE, m, steps, 0),
-        RunReply::Spent(m, steps) => done(SPENT, m, steps, 0),
-        RunReply::Paused(m, steps) => done(PAUSED, m, steps, 0),
+        Ok(end) => of_run_end(end),
+        Err(r) => refused(r),
     }
 }
 
-pub fn of_event(reply: EventReply) -> Reply
+pub fn of_event(reply: Result<EventEnd, Refused>) -> Reply
     ensures { (p q w t : List ℕ) → returned result p q w t ≡ exported (of_event (state p q w t) reply) }
 {
     match reply {
-        EventReply::Refused(n, m) => refused(n, m),
-        EventReply::Ignored(m) => done(IGNORED, m, 0, 0),
-        EventReply::Broke(m, steps) => done(BROKE, m, steps, 0),
-        EventReply::Spent(m, steps) => done(SPENT, m, steps, 0),
-        EventReply::Paused(m, steps) => done(PAUSED, m, steps, 0),
+        Ok(EventEnd::Ignored(m)) => done(IGNORED, m, 0, 0),
+        Ok(EventEnd::Ran(end)) => of_run_end(end),
+        Err(r) => refused(r),
     }
 }
 
-pub fn of_frame(reply: FrameReply) -> Reply
+pub fn of_frame(reply: Result<FrameEnd, Refused>) -> Reply
     ensures { (p q w t : List ℕ) → returned result p q w t ≡ exported (of_frame (state p q w t) reply) }
 {
     match reply {
-        FrameReply::Refused(n, m) => refused(n, m),
-        FrameReply::Broke(m, steps, verdict) => done(BROKE, m, steps, verdict),
-        FrameReply::Spent(m, steps) => done(SPENT, m, steps, 0),
+        Ok(FrameEnd::Broke(m, steps, verdict)) => done(BROKE, m, steps, verdict),
+        Ok(FrameEnd::Spent(m, steps)) => done(SPENT, m, steps, 0),
+        Err(r) => refused(r),
     }
 }
 
 // What a call watches, from its number in C: a port, or nothing.
-pub fn watch_of(watch: u16) -> Watch
+pub fn watch_of(watch: u16) -> Option<u8>
     ensures { result ≡ watch_of watch }
 {
-    if watch < PORTS {
-        Watch::Port(watch as u8)
-    } else {
-        Watch::Nothing
-    }
+    u8::try_from(watch).ok()
 }
 
 // 0 for a program that is admitted.
-pub fn of_admit(reply: AdmitReply) -> u8
+pub fn of_admit(reply: Result<(), Refusal>) -> u8
     ensures { (sheet : List ℕ) → admit_returned result sheet ≡ exported_admit (of_admit sheet reply) }
 {
     match reply {
-        AdmitReply::Refused(n) => n,
-        AdmitReply::Admitted => 0,
+        Ok(()) => 0,
+        Err(refusal) => u8::from(refusal),
     }
 }
 
-pub fn of_write(reply: WriteReply) -> Written
+pub fn of_write(reply: Result<usize, Refusal>) -> Written
     ensures { (output : List ℕ) → write_returned result output ≡ exported_write (of_write output reply) }
 {
     match reply {
-        WriteReply::Refused(n) => wrote(0, n),
-        WriteReply::Written(length) => wrote(length, 0),
+        Ok(length) => wrote(length, 0),
+        Err(refusal) => wrote(0, u8::from(refusal)),
     }
 }
 
@@ -269,11 +275,12 @@ fn plain(number: u8) -> Why
     }
 }
 
+// A refused admission that has a reason: no depths and routines obey the rules.
 fn because(rule: u8, count: u16, here: Place, next: Place, other: Place) -> Why
     ensures { result ≡ because_struct rule count here next other }
 {
     Why {
-        number: NO_ASSIGNMENT,
+        number: u8::from(Refusal::NoAssignment),
         rule,
         count,
         here,
@@ -286,11 +293,11 @@ fn of_reason(reason: Reason) -> Why
     ensures { result ≡ reason_struct reason }
 {
     match reason {
-        Reason::Cut(p, n) => because(CUT, n as u16, p, nowhere(), nowhere()),
+        Reason::Cut(p, n) => because(CUT, u16::from(n), p, nowhere(), nowhere()),
         Reason::Forbidden(p) => because(FORBIDDEN, 0, p, nowhere(), nowhere()),
-        Reason::FewWorking(p, n) => because(FEW_WORKING, n as u16, p, nowhere(), nowhere()),
-        Reason::FewReturn(p, n) => because(FEW_RETURN, n as u16, p, nowhere(), nowhere()),
-        Reason::BelowFloor(p, n, entry) => because(BELOW_FLOOR, n as u16, p, nowhere(), entry),
+        Reason::FewWorking(p, n) => because(FEW_WORKING, u16::from(n), p, nowhere(), nowhere()),
+        Reason::FewReturn(p, n) => because(FEW_RETURN, u16::from(n), p, nowhere(), nowhere()),
+        Reason::BelowFloor(p, n, entry) => because(BELOW_FLOOR, u16::from(n), p, nowhere(), entry),
         Reason::ManyWorking(p, n) => because(MANY_WORKING, n, p, nowhere(), nowhere()),
         Reason::ManyReturn(p, n) => because(MANY_RETURN, n, p, nowhere(), nowhere()),
         Reason::Outside(p, next) => because(OUTSIDE, 0, p, next, nowhere()),
@@ -301,12 +308,12 @@ fn of_reason(reason: Reason) -> Why
     }
 }
 
-pub fn of_explain(reply: ExplainReply) -> Why
+pub fn of_explain(reply: Result<Option<Reason>, Refusal>) -> Why
     ensures { result ≡ why_struct reply }
 {
     match reply {
-        ExplainReply::Refused(n) => plain(n),
-        ExplainReply::Admitted => plain(0),
-        ExplainReply::Because(reason) => of_reason(reason),
+        Ok(None) => plain(0),
+        Ok(Some(reason)) => of_reason(reason),
+        Err(refusal) => plain(u8::from(refusal)),
     }
 }

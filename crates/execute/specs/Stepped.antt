@@ -9,5 +9,5 @@ use Rattle.execute.specs.declared.Stepped.{Stepped}
 -- `state_of` makes the state of the machine record in the answer and the four buffers. The ports written are so many from the first one on,
 -- modulo 256
 abbrev pub of_stepped : (Machine → State) → Stepped → Reply
-of_stepped state_of (Stepped.WentOn m port sent) = with_ports (places_ring page_size port sent) (reply WentOn 1 0 (state_of m))
+of_stepped state_of (Stepped.WentOn m sent) = with_ports (places_ring page_size sent.first sent.count) (reply WentOn 1 0 (state_of m))
 of_stepped state_of (Stepped.Broke m) = reply Broke 1 0 (state_of m)

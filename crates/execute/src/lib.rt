@@ -3,51 +3,56 @@
 #![tactic(auto)]
 
 ghost use Rattle.std.specs.Prelude.{◌≡◌, ◌<◌};
-ghost use Rattle.model.specs.Machine.{state, Sized};
+ghost use Rattle.model.specs.Machine.{state};
 ghost use Rattle.operations.specs.After.{executed, byte_of};
 ghost use Rattle.execute.specs.Stepped.{of_stepped};
 
 use model::Machine;
 use operations::{compare, compute, dup, inc, nip, ovr, pop, rot, sft, swp};
-use stack::{lower, push};
-use std::num::wrapping_add_u16;
+use stack::{Memory, Page, Stack, lower, push};
 use transfers::{dei, deo, jci, jcn, jmp, lda, ldr, ldz, lit, offset, port_of, sta, sth, str, stz};
 
-// What a step answers: it went on, or it was BRK. On buffers of the right lengths none is refused. One that went on has the first port that
-// it wrote, and how many, 0 to 2: BRK writes none.
+// The ports that a step wrote: so many from the first one on, modulo 256.
+#[derive(Clone, Copy)]
+pub struct Sent {
+    pub first: u16,
+    pub count: u8,
+}
+
+// What a step answers: it went on, or it was BRK, which writes no port.
 #[derive(Clone, Copy)]
 pub enum Stepped {
-    WentOn(Machine, u16, u8),
+    WentOn(Machine, Sent),
     Broke(Machine),
 }
 
 // Each arm is an operation in 8-bit or 16-bit form; the arms 00, 20, 40 and 60 are the exceptions, LIT where keep is set and else
-// BRK, JCI, JMI and JSI. The high marks are handed through: the run raises them after each step.
+// BRK, JCI, JMI and JSI. The high marks are handed through: the run raises them after each step. The arms are written out for both stacks and
+// both widths, since a second dispatch costs the run a third more time.
 pub fn execute(
     m: Machine,
-    memory: &mut [u8],
-    devices: &mut [u8],
-    work: &mut [u8],
-    ret: &mut [u8],
+    memory: &mut Memory,
+    devices: &mut Page,
+    work: &mut Stack,
+    ret: &mut Stack,
     key: u8,
     keep: bool,
 ) -> Stepped
-    requires { Sized (state memory.old devices.old work.old ret.old m) × (key < 128) }
+    requires { key < 128 }
     ensures { of_stepped (state memory.new devices.new work.new ret.new) result
         ≡ executed (byte_of key keep) (state memory.old devices.old work.old ret.old m) }
 {
     let at = m.pc;
-    let mut pc = wrapping_add_u16(at, 1);
+    let mut pc = at.wrapping_add(1);
     let mut wp = m.wp;
     let mut rp = m.rp;
     let wp_high = m.wp_high;
     let rp_high = m.rp_high;
-    let mut port: u16 = 0;
-    let mut sent: u8 = 0;
+    let mut sent = Sent { first: 0, count: 0 };
     match key {
         0x00 => {
             if keep {
-                pc = wrapping_add_u16(at, 2);
+                pc = at.wrapping_add(2);
                 wp = lit(memory, work, at, wp, false);
             } else {
                 return Stepped::Broke(Machine {
@@ -106,8 +111,10 @@ pub fn execute(
         0x16 => wp = dei(devices, work, wp, false, keep),
         0x17 => {
             deo(devices, work, wp, false);
-            port = port_of(work, wp, false);
-            sent = 1;
+            sent = Sent {
+                first: port_of(work, wp, false),
+                count: 1,
+            };
             wp = lower(wp, keep, 2);
         }
         0x18 => wp = compute(work, wp, false, keep, 0),
@@ -120,7 +127,7 @@ pub fn execute(
         0x1f => wp = sft(work, wp, false, keep),
         0x20 => {
             if keep {
-                pc = wrapping_add_u16(at, 3);
+                pc = at.wrapping_add(3);
                 wp = lit(memory, work, at, wp, true);
             } else {
                 pc = jci(memory, work, at, wp);
@@ -174,8 +181,10 @@ pub fn execute(
         0x36 => wp = dei(devices, work, wp, true, keep),
         0x37 => {
             deo(devices, work, wp, true);
-            port = port_of(work, wp, true);
-            sent = 2;
+            sent = Sent {
+                first: port_of(work, wp, true),
+                count: 2,
+            };
             wp = lower(wp, keep, 3);
         }
         0x38 => wp = compute(work, wp, true, keep, 0),
@@ -188,7 +197,7 @@ pub fn execute(
         0x3f => wp = sft(work, wp, true, keep),
         0x40 => {
             if keep {
-                pc = wrapping_add_u16(at, 2);
+                pc = at.wrapping_add(2);
                 rp = lit(memory, ret, at, rp, false);
             } else {
                 pc = offset(memory, at);
@@ -241,8 +250,10 @@ pub fn execute(
         0x56 => rp = dei(devices, ret, rp, false, keep),
         0x57 => {
             deo(devices, ret, rp, false);
-            port = port_of(ret, rp, false);
-            sent = 1;
+            sent = Sent {
+                first: port_of(ret, rp, false),
+                count: 1,
+            };
             rp = lower(rp, keep, 2);
         }
         0x58 => rp = compute(ret, rp, false, keep, 0),
@@ -255,11 +266,11 @@ pub fn execute(
         0x5f => rp = sft(ret, rp, false, keep),
         0x60 => {
             if keep {
-                pc = wrapping_add_u16(at, 3);
+                pc = at.wrapping_add(3);
                 rp = lit(memory, ret, at, rp, true);
             } else {
                 pc = offset(memory, at);
-                rp = push(ret, rp, true, wrapping_add_u16(at, 3));
+                rp = push(ret, rp, true, at.wrapping_add(3));
             }
         }
         0x61 => rp = inc(ret, rp, true, keep),
@@ -309,8 +320,10 @@ pub fn execute(
         0x76 => rp = dei(devices, ret, rp, true, keep),
         0x77 => {
             deo(devices, ret, rp, true);
-            port = port_of(ret, rp, true);
-            sent = 2;
+            sent = Sent {
+                first: port_of(ret, rp, true),
+                count: 2,
+            };
             rp = lower(rp, keep, 3);
         }
         0x78 => rp = compute(ret, rp, true, keep, 0),
@@ -330,7 +343,6 @@ pub fn execute(
             wp_high,
             rp_high,
         },
-        port,
         sent,
     )
 }

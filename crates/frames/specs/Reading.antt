@@ -4,12 +4,9 @@ use Rattle.std.specs.Prelude.{◌≡◌, List, ◌++◌, ℕ}
 use Rattle.model.specs.Machine.{State}
 use Rattle.blocks.specs.Frames.{Judged, judged}
 
--- the most that is read at a time, and room for the lines of as many records
+-- the most that is read at a time
 abbrev pub block_size : ℕ
 block_size = 65536
-
-abbrev pub lines_size : ℕ
-lines_size = 6144
 
 -- some bytes came, none perhaps, behind those that waited
 abbrev pub Came : List ℕ → State → Judged → Type 0

@@ -6,15 +6,17 @@ use Prim.Native.Nat.{ℕ, zero, suc, ◌≤◌}
 use native.Mathlib.Omega.{arith}
 use borrow.Author.Tests.{ne_eqb}
 use Rattle.model.specs.Machine.{State}
+use Rattle.std.specs.Prelude.{Result, Ok, Err, OnOk}
 use Rattle.model.specs.Run.{reply}
 use Rattle.model.specs.Run.Answer.{Refused, Loaded}
 use Rattle.model.specs.Calls.{Row, refusal, buffer_rows, number_of, load, load_call, admit_rows, admit_by, admit_call, AdmitResult, install_rows, install_by, install_call}
 use Rattle.model.specs.Replies.{of_admit}
-use Rattle.model.specs.declared.AdmitReply.{AdmitReply}
+use Rattle.model.specs.Refusals.{refusal_number, refused_by}
+use Rattle.model.specs.declared.Refusal.{Refusal}
 use Rattle.model.specs.declared.Machine.{Machine}
 use Rattle.model.proofs.Numbers as numbers
 use Rattle.model.proofs.Installs.{admit_number, no_number}
-use Rattle.refusals.proofs.Refusals.{by_buffers, by_rows}
+use Rattle.refusals.proofs.Refusals.{some_number, by_buffers, by_rows}
 
 -- ---- a buffer of wrong length: the sheet stays
 
@@ -38,41 +40,42 @@ sheet_stays (suc n) program sheet h l = rw (ne_eqb (suc n) 11 (λ e. absurd (ome
 pub some_record_lem : Machine
 some_record_lem = record { pc = 0; wp = 0; rp = 0; wp_high = 0; rp_high = 0 }
 
-module _ (s : State) (n : ℕ) (e : n ≡ refusal (buffer_rows s)) where
-  pub wrong_number : (program sheet : List ℕ) → (n ≡ 0 → ⊥) → n ≡ refusal (install_rows program sheet s)
+module _ (s : State) (refused : Refusal) (e : refusal_number refused ≡ refusal (buffer_rows s)) where
+  pub wrong_number : (program sheet : List ℕ) → refusal_number refused ≡ refusal (install_rows program sheet s)
   unfolding install_rows
-  wrong_number program sheet h = by_buffers s n e (admit_rows program sheet) h
+  wrong_number program sheet = by_buffers s refused (admit_rows program sheet) e
 
-  pub wrong_sheet_lem : (program sheet : List ℕ) → (n ≡ 0 → ⊥) → sheet ≡ (admit_by n program sheet).sheet
-  wrong_sheet_lem program sheet h = let l : n ≤ 4 = rw e (buffers_most s) in sheet_stays n program sheet h l
+  pub wrong_sheet_lem : (program sheet : List ℕ) → sheet ≡ (admit_by (refusal_number refused) program sheet).sheet
+  wrong_sheet_lem program sheet =
+      let l : refusal_number refused ≤ 4 = rw e (buffers_most s) in
+      sheet_stays (refusal_number refused) program sheet (some_number refused) l
 
 -- ---- else the number and the sheet are those of admission
 
-abbrev pub number_in : AdmitReply → ℕ
-number_in (AdmitReply.Refused n) = n
-number_in AdmitReply.Admitted = 0
+parts : (after : List ℕ) (r : Result (Unit {0}) Refusal) → (number_of (of_admit after r).answer ≡ refused_by r) × ((of_admit after r).sheet ≡ after)
+parts after (Ok x) = (refl, refl)
+parts after (Err refused) = (refl, refl)
 
-parts : (after : List ℕ) (a : AdmitReply) → (number_of (of_admit after a).answer ≡ number_in a) × ((of_admit after a).sheet ≡ after)
-parts after (AdmitReply.Refused n) = (refl, refl)
-parts after AdmitReply.Admitted = (refl, refl)
-
-module _ (program sheet : List ℕ) (a : AdmitReply) (after : List ℕ) (e : of_admit after a ≡ admit_call program sheet) where
-  number_is : {k : ℕ} → number_in a ≡ k → refusal (admit_rows program sheet) ≡ k
+module _ (program sheet : List ℕ) (r : Result (Unit {0}) Refusal) (after : List ℕ) (e : of_admit after r ≡ admit_call program sheet) where
+  number_is : refusal (admit_rows program sheet) ≡ refused_by r
   unfolding admit_call
-  number_is h =
+  number_is =
       sym (admit_number (refusal (admit_rows program sheet)) program sheet)
-      ∙ sym (ap (λ (r : AdmitResult). number_of r.answer) e)
-      ∙ (parts after a).0
-      ∙ h
+      ∙ sym (ap (λ (a : AdmitResult). number_of a.answer) e)
+      ∙ (parts after r).0
 
-  pub admit_sheet : {k : ℕ} → number_in a ≡ k → after ≡ (admit_by k program sheet).sheet
+  pub admit_sheet : after ≡ (admit_by (refused_by r) program sheet).sheet
   unfolding admit_call
-  admit_sheet h = rw (← number_is h) (sym (parts after a).1 ∙ ap (λ (r : AdmitResult). r.sheet) e)
+  admit_sheet = rw (← number_is) (sym (parts after r).1 ∙ ap (λ (a : AdmitResult). a.sheet) e)
 
-  pub install-number : (s : State) (n : ℕ) → n ≡ refusal (buffer_rows s) → n ≡ 0 → {k : ℕ} → number_in a ≡ k
-      → k ≡ refusal (install_rows program sheet s)
+  pub install-number : (s : State) → 0 ≡ refusal (buffer_rows s) → refused_by r ≡ refusal (install_rows program sheet s)
   unfolding install_rows
-  install-number s n f z {k} h = by_rows s n f (admit_rows program sheet) k z (number_is h)
+  install-number s f = by_rows s f (admit_rows program sheet) (refused_by r) number_is
+
+-- what holds, holds where it is not refused
+pub on_ok : {A E P : Type 0} (r : Result A E) → P → OnOk r P
+on_ok (Ok x) h = h
+on_ok (Err e) h = tt
 
 -- ---- the reply
 

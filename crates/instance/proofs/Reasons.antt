@@ -13,7 +13,7 @@ use Rattle.model.specs.Reasons.{Passes, Passable, WayTo, Stands, True}
 use Rattle.model.specs.declared.Place.{Place}
 use Rattle.model.specs.declared.Reason.{Reason}
 use Rattle.model.proofs.Computing.{admitting}
-use Rattle.model.proofs.Tests.{one_of}
+use Rattle.model.proofs.Tests.{one_of_lem}
 
 abbrev place : (at work ret routine : ℕ) → Place
 place at work ret routine = record { at = at; work = work; ret = ret; routine = routine }
@@ -29,12 +29,12 @@ passes program at w r l t =
     let tests = rule_tests program at w r in
     record {
       placed = leb→le _ _ l;
-      inside = leb→le _ _ (one_of tests 2 t);
-      fine = one_of tests 3 t;
-      work = leb→le _ _ (one_of tests 4 t);
-      ret = leb→le _ _ (one_of tests 5 t);
-      work_top = leb→le _ _ (one_of tests 6 t);
-      ret_top = leb→le _ _ (one_of tests 7 t);
+      inside = leb→le _ _ (one_of_lem tests 2 t);
+      fine = one_of_lem tests 3 t;
+      work = leb→le _ _ (one_of_lem tests 4 t);
+      ret = leb→le _ _ (one_of_lem tests 5 t);
+      work_top = leb→le _ _ (one_of_lem tests 6 t);
+      ret_top = leb→le _ _ (one_of_lem tests 7 t);
     }
 
 -- at a place in the program

@@ -6,9 +6,9 @@ ghost use Rattle.model.specs.Machine.{state};
 ghost use Rattle.model.specs.Calls.{load_call};
 ghost use Rattle.model.specs.Replies.{of_load};
 
-use buffers::put_program;
-use model::{LoadReply, Machine};
-use refusals::load_refusal;
+use buffers::{put_program, sized};
+use model::{Machine, Refused};
+use refusals::check_load;
 
 // "memory is zero but for the program at 0100 hexadecimal; device page and stacks are zero; both pointers 0; counter 0100";
 // C-20: the high marks are 0
@@ -19,13 +19,21 @@ pub fn load(
     work: &mut [u8],
     ret: &mut [u8],
     program: &[u8],
-) -> LoadReply
+) -> Result<Machine, Refused>
     ensures { of_load (state memory.new devices.new work.new ret.new) result
         ≡ load_call program.now (state memory.old devices.old work.old ret.old m) }
 {
-    let number = load_refusal(memory, devices, work, ret, program);
-    if number != 0 {
-        return LoadReply::Refused(number, m);
+    if let Err(refusal) = check_load(memory, devices, work, ret, program) {
+        return Err(Refused {
+            refusal,
+            machine: m,
+        });
     }
-    LoadReply::Loaded(put_program(memory, devices, work, ret, program))
+    Ok(put_program(
+        sized(memory),
+        sized(devices),
+        sized(work),
+        sized(ret),
+        program,
+    ))
 }

@@ -1,5 +1,6 @@
 // The public calls that run a machine: step, run, event and frame. Each takes the machine record by value and four lent
-// buffers of any length, and refuses first.
+// buffers of any length, and refuses first. Record and buffers are five arguments, as the C interface lends them: of a struct of four `&mut` a clause
+// sees what is left behind each only as a part of nested pairs, as `lent.exit.1.1.0.now`, and no name.
 #![tactic(auto)]
 
 ghost use Rattle.std.specs.Prelude.{◌≡◌};
@@ -7,18 +8,22 @@ ghost use Rattle.model.specs.Machine.{state};
 ghost use Rattle.model.specs.Calls.{step_call, run_call, event_call, frame_call};
 ghost use Rattle.model.specs.Replies.{of_step, of_run, of_event, of_frame};
 
-use buffers::{clear_verdict, frame_memory, verdict};
+use buffers::{clear_verdict, frame_memory, sized, verdict};
 use cpu::ports;
-use model::{EventReply, FrameReply, Machine, RunReply, StepReply, Watch};
-use refusals::{event_refusal, frame_refusal, wrong_length};
-use replies::{event_of, frame_of, run_of, step_of};
+use model::{EventEnd, FrameEnd, Machine, Refusal, Refused, RunEnd, START, StepEnd};
+use refusals::{check_buffers, check_event, check_frame};
+use replies::{frame_of, run_of, step_of};
 use stack::input;
-
-// A program starts at 0100 hexadecimal.
-const START: u16 = 0x0100;
 
 // Device d has the ports from 16 x d on.
 const DEVICE_PORTS: u16 = 16;
+
+// "A refusal returns its number, 0 steps, verdict 0 and that record unchanged."
+fn refused(refusal: Refusal, machine: Machine) -> Refused
+    ensures { result ≡ record { refusal = refusal; machine = machine } }
+{
+    Refused { refusal, machine }
+}
 
 // One instruction, as a run with budget 1: the loop of `cpu::run` stays the one place where an instruction is carried out. Which ports it
 // writes (C-18) is read before it.
@@ -28,19 +33,20 @@ pub fn step(
     devices: &mut [u8],
     work: &mut [u8],
     ret: &mut [u8],
-) -> StepReply
+) -> Result<StepEnd, Refused>
     ensures { of_step (state memory.new devices.new work.new ret.new) result
         ≡ step_call (state memory.old devices.old work.old ret.old m) }
 {
-    let number = wrong_length(memory, devices, work, ret);
-    if number != 0 {
-        return StepReply::Refused(number, m);
+    if let Err(refusal) = check_buffers(memory, devices, work, ret) {
+        return Err(refused(refusal, m));
     }
+    let memory = sized(memory);
+    let devices = sized(devices);
+    let work = sized(work);
+    let ret = sized(ret);
     let wrote = ports(m, memory, work, ret);
-    step_of(
-        cpu::run(m, memory, devices, work, ret, 1, Watch::Nothing),
-        wrote,
-    )
+    let end = cpu::run(m, memory, devices, work, ret, 1, None);
+    Ok(step_of(end, wrote))
 }
 
 // "Each instruction costs one, BRK too. Broke if the last was BRK, else Spent."; C-18: Paused after a step that wrote the watched port
@@ -51,19 +57,20 @@ pub fn run(
     work: &mut [u8],
     ret: &mut [u8],
     budget: u32,
-    watch: Watch,
-) -> RunReply
+    watch: Option<u8>,
+) -> Result<RunEnd, Refused>
     ensures { of_run (state memory.new devices.new work.new ret.new) result
         ≡ run_call watch budget (state memory.old devices.old work.old ret.old m) }
 {
-    let number = wrong_length(memory, devices, work, ret);
-    if number != 0 {
-        return RunReply::Refused(number, m);
+    if let Err(refusal) = check_buffers(memory, devices, work, ret) {
+        return Err(refused(refusal, m));
     }
-    run_of(
-        cpu::run(m, memory, devices, work, ret, budget, watch),
-        budget,
-    )
+    let memory = sized(memory);
+    let devices = sized(devices);
+    let work = sized(work);
+    let ret = sized(ret);
+    let end = cpu::run(m, memory, devices, work, ret, budget, watch);
+    Ok(run_of(end, budget))
 }
 
 // "Zero: Ignored, 0 steps, nothing changed. Else run from it; stacks and pointers are retained.", C-20: and the
@@ -76,35 +83,25 @@ pub fn event(
     ret: &mut [u8],
     device: u32,
     budget: u32,
-    watch: Watch,
-) -> EventReply
+    watch: Option<u8>,
+) -> Result<EventEnd, Refused>
     ensures { of_event (state memory.new devices.new work.new ret.new) result
         ≡ event_call watch device budget (state memory.old devices.old work.old ret.old m) }
 {
-    let number = event_refusal(memory, devices, work, ret, device);
-    if number != 0 {
-        return EventReply::Refused(number, m);
+    if let Err(refusal) = check_event(memory, devices, work, ret, device) {
+        return Err(refused(refusal, m));
     }
+    let devices = sized(devices);
     let vector = input(devices, DEVICE_PORTS * (device as u16), true);
     if vector == 0 {
-        return EventReply::Ignored(m);
+        return Ok(EventEnd::Ignored(m));
     }
-    let end = cpu::run(
-        Machine {
-            pc: vector,
-            wp: m.wp,
-            rp: m.rp,
-            wp_high: m.wp_high,
-            rp_high: m.rp_high,
-        },
-        memory,
-        devices,
-        work,
-        ret,
-        budget,
-        watch,
-    );
-    event_of(end, budget)
+    let from = Machine { pc: vector, ..m };
+    let memory = sized(memory);
+    let work = sized(work);
+    let ret = sized(ret);
+    let end = cpu::run(from, memory, devices, work, ret, budget, watch);
+    Ok(EventEnd::Ran(run_of(end, budget)))
 }
 
 // "Port F2 is set to 0", C-16: the record is "written to 0080 to 00FF", "both pointers become 0, and the program runs from 0100
@@ -117,30 +114,23 @@ pub fn frame(
     ret: &mut [u8],
     frame: &[u8],
     budget: u32,
-) -> FrameReply
+) -> Result<FrameEnd, Refused>
     ensures { of_frame (state memory.new devices.new work.new ret.new) result
         ≡ frame_call frame.now budget (state memory.old devices.old work.old ret.old m) }
 {
-    let number = frame_refusal(memory, devices, work, ret, frame);
-    if number != 0 {
-        return FrameReply::Refused(number, m);
+    if let Err(refusal) = check_frame(memory, devices, work, ret, frame) {
+        return Err(refused(refusal, m));
     }
+    let memory = sized(memory);
+    let devices = sized(devices);
+    let work = sized(work);
+    let ret = sized(ret);
     frame_memory(memory, frame);
     clear_verdict(devices);
-    let end = cpu::run(
-        Machine {
-            pc: START,
-            wp: 0,
-            rp: 0,
-            wp_high: 0,
-            rp_high: 0,
-        },
-        memory,
-        devices,
-        work,
-        ret,
-        budget,
-        Watch::Nothing,
-    );
-    frame_of(end, budget, verdict(devices))
+    let started = Machine {
+        pc: START,
+        ..Machine::default()
+    };
+    let end = cpu::run(started, memory, devices, work, ret, budget, None);
+    Ok(frame_of(end, budget, verdict(devices)))
 }

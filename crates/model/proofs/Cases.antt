@@ -1,4 +1,5 @@
 -- The cases of document 01, by computation. Assumes nothing.
+use Rattle.std.specs.Prelude.{Option}
 use mathlib.Core.Path.{◌≡◌, refl}
 use mathlib.Core.Bool.{Bool, true, false, not, ◌&&◌, ◌||◌}
 use mathlib.Core.List.{List, [], ◌∷◌}
@@ -10,7 +11,6 @@ use Rattle.model.specs.Machine.{memory_size, page_size, stack_size, Sized}
 use Rattle.model.specs.Step.{pop_wraps, push_wraps, stack_wraps}
 use Rattle.model.specs.Run.{run}
 use Rattle.model.specs.Run.Answer.{Admitted}
-use Rattle.model.specs.declared.Watch.{Watch}
 use Rattle.model.specs.Calls.{has_length, unless, load_most, load, load_call, admit_call}
 use Rattle.model.specs.Demand3.{greatest_of}
 use Rattle.model.specs.Cases.{Case, claimed, all_claimed, used, load_and_run, all_hold, starred, mistakes, sentences, example, example_sheet, call_example, call_sheet, subroutines, marks_raised, ports_written, depths_fine, depths_not, call_depths_fine, call_depths_not, depths_are, rotate_tests, call_tests, numbered, agree, greatest_depths, summing, frames_seen, vectored, events_seen, wrapping, not_wrapping, wraps_are, move_cases, record_move_cases, all_come}
@@ -34,7 +34,7 @@ used_sized =
       ret = length-replicate {A = ℕ} stack_size 0xAA;
     }
 
-only_run : (program : List ℕ) (watch : Watch) (budget : ℕ) → T (fits program) → load_and_run program watch budget ≡ run watch budget (load program)
+only_run : (program : List ℕ) (watch : Option ℕ) (budget : ℕ) → T (fits program) → load_and_run program watch budget ≡ run watch budget (load program)
 unfolding load_and_run load_call unless
 only_run program watch budget t =
     let e = load-passed program used used_sized (not-true _ t) in

@@ -1,4 +1,5 @@
 -- Demand 3. Assumes nothing.
+use Rattle.std.specs.Prelude.{None}
 use mathlib.Core.Path.{◌≡◌, refl, sym, ap, ◌∙◌}
 use mathlib.Core.Bool.{true, true≢false}
 use mathlib.Core.List.{List, [], ◌∷◌}
@@ -11,9 +12,7 @@ use Rattle.model.specs.Bytes.{Bytes, Every}
 use Rattle.model.specs.Machine.{start, State}
 use Rattle.model.specs.Step.{execute, step, fetched, breaks}
 use Rattle.model.specs.Run.{run, trace}
-use Rattle.model.specs.declared.Watch.{Watch}
 use Rattle.model.specs.Admission.{admit_most, byte_at, Within, sheet_record, record_byte, record_of, mark_in, Smallest}
-use Rattle.model.specs.Admission.Mark.{marked}
 use Rattle.model.specs.Calls.{frame_size, framed, load, install_call}
 use Rattle.model.specs.Demand3.{Call, filled, called, traced, next, Stands, InstallsRefused, Intact, Sound, open_after, Lands, EachLands, greatest_of, greatest_depth, HighInSheet, Safe, Demand3}
 use Rattle.model.proofs.Bytes.{greater_both, greater-most}
@@ -108,9 +107,9 @@ module _ (filter sheet : List ℕ) (written : Smallest filter sheet) (most : len
   Kept opened t after = Every (Sound filter sheet) t × EachLands opened t × Intact filter after × HighInSheet sheet after
 
   -- a run from a marked address
-  run_sound : (k : ℕ) (s : State) (opened : List ℕ) → Here opened s → HighInSheet sheet s → Kept opened (trace Watch.Nothing k s) (run Watch.Nothing k s).state
+  run_sound : (k : ℕ) (s : State) (opened : List ℕ) → Here opened s → HighInSheet sheet s → Kept opened (trace None k s) (run None k s).state
   run_sound =
-      run_induction Watch.Nothing (λ k s r t. (opened : List ℕ) → Here opened s → HighInSheet sheet s → Kept opened t r.state)
+      run_induction None (λ k s r t. (opened : List ℕ) → Here opened s → HighInSheet sheet s → Kept opened t r.state)
       (λ s opened at b. (tt, tt, at.intact, b))
       (λ k s e opened at b. ((sound opened s at, tt), (landed opened s at, tt), stepped opened s at, raises s b (broke opened s at e)))
       (λ k s e f. absurd (true≢false (sym f)))

@@ -1,4 +1,5 @@
 -- C-18: the ports that a step writes, and what follows a pause. Assumes nothing.
+use Rattle.std.specs.Prelude.{Option, Some, None}
 use mathlib.Core.Path.{◌≡◌, refl, ap, ◌∙◌}
 use mathlib.Core.Bool.{Bool, true, false, cond, ◌||◌, true≢false}
 use mathlib.Core.List.{List, [], ◌∷◌, append-nil}
@@ -16,7 +17,6 @@ use Rattle.model.specs.Step.{effect, effect_on, written, effect_at, applied, exc
 use Rattle.model.specs.Run.{Reply, reply, pauses, run, more}
 use Rattle.model.specs.Run.Answer.{Broke, Paused, Ignored}
 use Rattle.model.specs.Calls.{refusal, buffer_rows, unless, from, vector, event_rows, run_call, event_call}
-use Rattle.model.specs.declared.Watch.{Watch}
 use Rattle.model.proofs.Bytes.{length-word}
 use Rattle.model.proofs.Changes.{stores_devices, sends_is}
 use Rattle.model.proofs.Computing.{decoding}
@@ -82,16 +82,16 @@ brk_writes s e = ap (λ n. ports_of n s) (eqb-true (fetched s) 0x00 e)
 
 -- No step of a run wrote what is watched, but the last one of a run that is Paused (`paused_last`). So none of a run that is Spent: "Paused
 -- goes before Spent on the last unit"
-pub unseen : (watch : Watch) (k : ℕ) (s : State) (i : ℕ) → i < (run watch k s).steps → ((run watch k s).answer ≡ Paused → suc i < (run watch k s).steps)
+pub unseen : (watch : Option ℕ) (k : ℕ) (s : State) (i : ℕ) → i < (run watch k s).steps → ((run watch k s).answer ≡ Paused → suc i < (run watch k s).steps)
     → pauses watch (step_ports (after i s)) ≡ false
 unseen watch =
     run_induction watch (λ k s r t. (i : ℕ) → i < r.steps → (r.answer ≡ Paused → suc i < r.steps) → pauses watch (step_ports (after i s)) ≡ false)
     (λ s i l h. absurd (omega arith)) (λ k s e. broke s e) (λ k s e f i l h. let g = h refl in absurd (omega arith))
     (λ k s r t e f ih. on s r f ih)
   where
-    none : (x : Watch) → pauses x [] ≡ false
-    none Watch.Nothing = refl
-    none (Watch.Port p) = refl
+    none : (x : Option ℕ) → pauses x [] ≡ false
+    none None = refl
+    none (Some p) = refl
 
     broke : (s : State) → breaks s ≡ true → (i : ℕ) → i < 1 → (Broke ≡ Paused → suc i < 1) → pauses watch (step_ports (after i s)) ≡ false
     broke s e zero l h = rw (brk_writes s e) (none watch)
@@ -114,40 +114,40 @@ unfolding unless
 done_is n s done e = rw e
 
 -- "Running on unwatched from there with what budget remains ends as an unwatched run from the start, steps added."
-pub paused_run : (watch : Watch) (budget : ℕ) (s : State) → (run_call watch budget s).answer ≡ Paused
-    → run_call Watch.Nothing budget s
-    ≡ more (run_call watch budget s).steps (run_call Watch.Nothing (budget - (run_call watch budget s).steps) (run_call watch budget s).state)
+pub paused_run : (watch : Option ℕ) (budget : ℕ) (s : State) → (run_call watch budget s).answer ≡ Paused
+    → run_call None budget s
+    ≡ more (run_call watch budget s).steps (run_call None (budget - (run_call watch budget s).steps) (run_call watch budget s).state)
 unfolding run_call
 paused_run watch budget s h =
     let e = not-refused (refusal (buffer_rows s)) s (run watch budget s) h in
     let z = right s e in
     let a = run-passed watch budget s z in
     let p : (run watch budget s).answer ≡ Paused = rw a at h in
-    rw (a, run-passed Watch.Nothing budget s z, run-passed Watch.Nothing (budget - (run watch budget s).steps) (run watch budget s).state (run_sized watch budget s z))
+    rw (a, run-passed None budget s z, run-passed None (budget - (run watch budget s).steps) (run watch budget s).state (run_sized watch budget s z))
     (runs_on watch budget s p)
   where
     right : (s : State) → refusal (buffer_rows s) ≡ 0 → Sized s
     right s e = (buffers_right s [] (ap refusal (append-nil (buffer_rows s)) ∙ e)).0
 
 -- the same of an event: a run goes on from there
-pub paused_event : (watch : Watch) (device budget : ℕ) (s : State) → (event_call watch device budget s).answer ≡ Paused
-    → event_call Watch.Nothing device budget s
-    ≡ more (event_call watch device budget s).steps (run_call Watch.Nothing (budget - (event_call watch device budget s).steps) (event_call watch device budget s).state)
+pub paused_event : (watch : Option ℕ) (device budget : ℕ) (s : State) → (event_call watch device budget s).answer ≡ Paused
+    → event_call None device budget s
+    ≡ more (event_call watch device budget s).steps (run_call None (budget - (event_call watch device budget s).steps) (event_call watch device budget s).state)
 unfolding event_call
 paused_event watch device budget s h =
     let e = not-refused (refusal (event_rows device s)) s (did watch (eqb (vector device s) 0)) h in
     let z = (event_right device s e).0 in
-    let d : (x : Watch) → event_call x device budget s ≡ did x (eqb (vector device s) 0) = λ x. done_is _ s _ e in
-    rw (d watch, d Watch.Nothing) (by (eqb (vector device s) 0) z (rw (d watch) at h))
+    let d : (x : Option ℕ) → event_call x device budget s ≡ did x (eqb (vector device s) 0) = λ x. done_is _ s _ e in
+    rw (d watch, d None) (by (eqb (vector device s) 0) z (rw (d watch) at h))
   where
-    did : Watch → Bool → Reply
+    did : Option ℕ → Bool → Reply
     did x none = cond none (reply Ignored 0 0 s) (run x budget (from (vector device s) s))
 
     by : (none : Bool) → Sized s → (did watch none).answer ≡ Paused
-        → did Watch.Nothing none ≡ more (did watch none).steps (run_call Watch.Nothing (budget - (did watch none).steps) (did watch none).state)
+        → did None none ≡ more (did watch none).steps (run_call None (budget - (did watch none).steps) (did watch none).state)
     by true z p = let y : ◌≡◌ {A = ℕ} 0 1 = cc in absurd (omega arith)
     by false z p =
         let t = from (vector device s) s in
         let u : Sized t = record { memory = z.memory; devices = z.devices; work = z.work; ret = z.ret } in
-        rw (run-passed Watch.Nothing (budget - (run watch budget t).steps) (run watch budget t).state (run_sized watch budget t u))
+        rw (run-passed None (budget - (run watch budget t).steps) (run watch budget t).state (run_sized watch budget t u))
         (runs_on watch budget t p)

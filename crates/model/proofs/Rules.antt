@@ -14,7 +14,7 @@ use Rattle.model.specs.Machine.{start}
 use Rattle.model.specs.Admission.{Mark, byte_at, Within, allowed, mark_after, after_of, target_of, successors, GoesOn, Called, Leaves, floor, Rules, Assignment, mark_at, same_mark, all, found, is_call, call_of, return_of, is_marked, has_work, rule_tests, routine_tests, comes_back, returned, onward, goes_on, fits, fits_from, assigns}
 use Rattle.model.specs.Admission.Mark.{unmarked, marked}
 use Rattle.model.proofs.Computing.{decoding}
-use Rattle.model.proofs.Tests.{and_left, and_right, and_both, or_cases, is_true, not-true, one_of}
+use Rattle.model.proofs.Tests.{and_left, and_right, and_both, or_cases, is_true, not-true, one_of_lem}
 
 -- ---- marks
 
@@ -229,7 +229,7 @@ module _ (program : List ℕ) (marks : List Mark) (size : length marks ≡ lengt
       let low = eqb r (floor (mark_at marks) q) in
       let inner = not (eqb q start) in
       let one = has_work w (return_of program marks q) in
-      let t : T (low && inner && one) = rw b at (one_of (routine_tests program marks at w r q) 2 (tests at w r q e).routines) in
+      let t : T (low && inner && one) = rw b at (one_of_lem (routine_tests program marks at w r q) 2 (tests at w r q e).routines) in
       let u = and_left (low && inner) one t in
       let n = not-true (eqb q start) (and_right low inner u) in
       (eqb→eq _ _ (and_left low inner u), λ f. eqb-false q start n f, and_right (low && inner) one t)
@@ -241,7 +241,7 @@ module _ (program : List ℕ) (marks : List Mark) (size : length marks ≡ lengt
   routine-led : (at w r q : ℕ) → Fits program marks at w r q → (q ≡ start) ⊎ Called program (mark_at marks) q
   unfolding routine_tests is_call
   routine-led at w r q t =
-      elim (or_cases (eqb q start) (is_marked (call_of program marks q)) (one_of (routine_tests program marks at w r q) 0 t.routines)) [
+      elim (or_cases (eqb q start) (is_marked (call_of program marks q)) (one_of_lem (routine_tests program marks at w r q) 0 t.routines)) [
         | inl u ↦ inl (eqb→eq q start u)
         | inr u ↦
             let d = mark_parts (call_of program marks q) u in
@@ -272,19 +272,19 @@ module _ (program : List ℕ) (marks : List Mark) (size : length marks ≡ lengt
       let depths = rule_tests program at w r in
       let u = t.depths in
       record {
-        work_low = leb→le _ _ (one_of depths 0 u);
-        ret_low = leb→le _ _ (one_of depths 1 u);
+        work_low = leb→le _ _ (one_of_lem depths 0 u);
+        ret_low = leb→le _ _ (one_of_lem depths 1 u);
         placed = (marked-at marks at w r q e).0;
-        inside = leb→le _ _ (one_of depths 2 u);
-        fine = one_of depths 3 u;
-        work = leb→le _ _ (one_of depths 4 u);
-        ret = leb→le _ _ (one_of depths 5 u);
-        work_top = leb→le _ _ (one_of depths 6 u);
-        ret_top = leb→le _ _ (one_of depths 7 u);
+        inside = leb→le _ _ (one_of_lem depths 2 u);
+        fine = one_of_lem depths 3 u;
+        work = leb→le _ _ (one_of_lem depths 4 u);
+        ret = leb→le _ _ (one_of_lem depths 5 u);
+        work_top = leb→le _ _ (one_of_lem depths 6 u);
+        ret_top = leb→le _ _ (one_of_lem depths 7 u);
         on = every_first (GoesOn program (mark_at marks)) (successors program at w r q) (returned program marks at r q) (onward-on at w r q e);
         routine = routine-led at w r q t;
         above = λ n.
-            elim (or_cases (eqb (byte_at program at) 0x6C) _ (one_of (routine_tests program marks at w r q) 1 t.routines)) [
+            elim (or_cases (eqb (byte_at program at) 0x6C) _ (one_of_lem (routine_tests program marks at w r q) 1 t.routines)) [
               | inl y ↦ absurd (n (eqb→eq _ _ y))
               | inr y ↦ leb→le _ _ y
             ];

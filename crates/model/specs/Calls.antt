@@ -1,11 +1,10 @@
 -- Document 01, "Calls" and "Numbered replies", and document 02's C-15: the seven calls, for lent buffers of any length.
 -- Assumes nothing.
-use Rattle.std.specs.Prelude.{Bool, true, cond, not, ◌&&◌, ◌||◌, List, [], ◌∷◌, ◌++◌, ℕ, zero, suc, ◌+◌, ◌-◌, ◌*◌, eqb, ltb, leb, length, get_or, set, take, drop}
+use Rattle.std.specs.Prelude.{Bool, true, cond, not, ◌&&◌, ◌||◌, List, [], ◌∷◌, ◌++◌, ℕ, zero, suc, ◌+◌, ◌-◌, ◌*◌, eqb, ltb, leb, length, get_or, set, take, drop, Option, None}
 use Rattle.model.specs.Bytes.{number, read_ring, zeros}
 use Rattle.model.specs.Machine.{memory_size, page_size, stack_size, start, stack, high_marks, State}
 use Rattle.model.specs.Run.{Answer, Reply, reply, step_reply, run, trace}
 use Rattle.model.specs.Run.Answer.{Refused, Loaded, WentOn, Broke, Spent, Paused, Ignored, Admitted}
-use Rattle.model.specs.declared.Watch.{Watch}
 use Rattle.model.specs.Admission.{admit_most, admitted, reached, sheet_record, sheet_of}
 
 -- ---- numbered replies
@@ -84,7 +83,7 @@ unfoldable pub step_call : State → Reply
 step_call s = unless (refusal (buffer_rows s)) s (step_reply s)
 
 -- C-18: "Runs and events .. take one watched port or none"
-unfoldable pub run_call : Watch → ℕ → State → Reply
+unfoldable pub run_call : Option ℕ → ℕ → State → Reply
 run_call watch budget s = unless (refusal (buffer_rows s)) s (run watch budget s)
 
 -- ---- event
@@ -99,7 +98,7 @@ vector device s = number (read_ring page_size s.devices (16 * device) 2)
 
 -- "Zero: Ignored, 0 steps, nothing changed. Else run from it; stacks and pointers are retained.", C-20: and the
 -- high marks, for it is no frame start
-unfoldable pub event_call : Watch → ℕ → ℕ → State → Reply
+unfoldable pub event_call : Option ℕ → ℕ → ℕ → State → Reply
 event_call watch device budget s =
     unless (refusal (event_rows device s)) s
     (cond (eqb (vector device s) 0) (reply Ignored 0 0 s) (run watch budget (from (vector device s) s)))
@@ -163,11 +162,11 @@ with_verdict r = reply r.answer r.steps (verdict_of r.answer r.state) r.state
 
 -- C-18: "Frame calls watch nothing and answer as before."
 unfoldable pub frame_call : List ℕ → ℕ → State → Reply
-frame_call frame budget s = unless (refusal (frame_rows frame s)) s (with_verdict (run Watch.Nothing budget (framed frame s)))
+frame_call frame budget s = unless (refusal (frame_rows frame s)) s (with_verdict (run None budget (framed frame s)))
 
 -- the states before each step of that call: none if it is refused
 unfoldable pub frame_trace : List ℕ → ℕ → State → List State
-frame_trace frame budget s = elim (refusal (frame_rows frame s)) [ zero ↦ trace Watch.Nothing budget (framed frame s) | suc n ↦ [] ]
+frame_trace frame budget s = elim (refusal (frame_rows frame s)) [ zero ↦ trace None budget (framed frame s) | suc n ↦ [] ]
 
 -- "0 drops the frame, any other number passes it"
 abbrev pub passed : ℕ → Bool

@@ -2,7 +2,7 @@
 -- with the mistakes that it names, further sentences, document 02's C-18, C-19 and C-20, the numbered replies, frame and event calls, steps that
 -- wrap a stack, and moves of sheets.
 -- Assumes nothing.
-use Rattle.std.specs.Prelude.{Bool, true, false, ◌&&◌, List, [], ◌∷◌, ◌++◌, ℕ, ◌+◌, ◌*◌, ◌-◌, eqb, length, get_or, take, replicate}
+use Rattle.std.specs.Prelude.{Bool, true, false, ◌&&◌, List, [], ◌∷◌, ◌++◌, ℕ, ◌+◌, ◌*◌, ◌-◌, eqb, length, get_or, take, replicate, Option, Some, None}
 use Rattle.std.specs.Bool.{beq}
 use Rattle.model.specs.Bytes.{number, read_ring, zeros}
 use Rattle.model.specs.Machine.{memory_size, page_size, stack_size, start, Stack, stack, high_marks, State}
@@ -11,7 +11,6 @@ use Rattle.model.specs.Step.{stack_wraps}
 use Rattle.model.specs.Admission.{all, rule_tests, sheet_record}
 use Rattle.model.specs.Run.{Answer, Reply, step_reply}
 use Rattle.model.specs.Run.Answer.{Refused, Loaded, WentOn, Broke, Spent, Paused, Ignored, Admitted}
-use Rattle.model.specs.declared.Watch.{Watch}
 use Rattle.model.specs.Writes.{WriteResult, written, unwritten}
 use Rattle.model.specs.Moves.{widen_call, narrow_call}
 use Rattle.model.specs.RecordMoves.{widen_records, narrow_records}
@@ -30,7 +29,7 @@ pub data Claim : Type 0 where
 
 pub record Case : Type 0 where
   pub program : List ℕ
-  pub watch : Watch
+  pub watch : Option ℕ
   pub budget : ℕ
   pub claims : List Claim
 
@@ -94,7 +93,7 @@ unfoldable pub used : State
 used = used_with memory_size page_size stack_size stack_size
 
 -- "after load": a load, then a run with the budget
-unfoldable pub load_and_run : List ℕ → Watch → ℕ → Reply
+unfoldable pub load_and_run : List ℕ → Option ℕ → ℕ → Reply
 load_and_run program watch budget = run_call watch budget (load_call program used).state
 
 unfoldable pub all_hold : List Case → Bool
@@ -104,11 +103,11 @@ all_hold (c ∷ cs) = all_claimed c.program (load_and_run c.program c.watch c.bu
 -- ---- the cases
 
 abbrev pub case : List ℕ → ℕ → List Claim → Case
-case program budget claims = record { program = program; watch = Watch.Nothing; budget = budget; claims = claims }
+case program budget claims = record { program = program; watch = None; budget = budget; claims = claims }
 
 -- the run watches this port
 abbrev pub watching : ℕ → List ℕ → ℕ → List Claim → Case
-watching port program budget claims = record { program = program; watch = Watch.Port port; budget = budget; claims = claims }
+watching port program budget claims = record { program = program; watch = Some port; budget = budget; claims = claims }
 
 -- a budget that is enough, where the sheet names none
 abbrev pub enough : ℕ
@@ -399,14 +398,14 @@ unfoldable pub numbered : List (ℕ × ℕ)
 numbered =
     (number_of (load_call [] (used_with 65535 255 255 255)).answer, 1)
     ∷ (number_of (step_call (used_with 65536 257 255 255)).answer, 2)
-    ∷ (number_of (run_call Watch.Nothing 0 (used_with 65536 256 0 255)).answer, 3)
-    ∷ (number_of (event_call Watch.Nothing 16 0 (used_with 65536 256 256 257)).answer, 4)
+    ∷ (number_of (run_call None 0 (used_with 65536 256 0 255)).answer, 3)
+    ∷ (number_of (event_call None 16 0 (used_with 65536 256 256 257)).answer, 4)
     ∷ (number_of (frame_call [] 0 (used_with 65537 256 256 256)).answer, 1)
     ∷ (number_of (load_call [] used).answer, 5)
     ∷ (number_of (load_call (zeros 65280) used).answer, 0)
     ∷ (number_of (load_call (zeros 65281) used).answer, 5)
-    ∷ (number_of (event_call Watch.Nothing 15 0 used).answer, 0)
-    ∷ (number_of (event_call Watch.Nothing 16 0 used).answer, 6)
+    ∷ (number_of (event_call None 15 0 used).answer, 0)
+    ∷ (number_of (event_call None 16 0 used).answer, 6)
     ∷ (number_of (frame_call (replicate 127 0xAA) 0 used).answer, 7)
     ∷ (number_of (frame_call (replicate 129 0x00) 0 used).answer, 7)
     ∷ (number_of (frame_call (frame_record 126 (replicate 126 0xAA)) 0 used).answer, 0)
@@ -486,11 +485,11 @@ vectored byte =
 
 unfoldable pub events_seen : List (ℕ × ℕ)
 events_seen =
-    let a = event_call Watch.Nothing 1 5 (vectored 0x00) in
-    let b = event_call Watch.Nothing 1 0 (vectored 0x00) in
-    let c = event_call (Watch.Port 0x00) 2 5 (vectored 0x17) in
-    let d = event_call (Watch.Port 0x00) 1 5 (vectored 0x17) in
-    let e = event_call Watch.Nothing 1 5 (vectored 0x17) in
+    let a = event_call None 1 5 (vectored 0x00) in
+    let b = event_call None 1 0 (vectored 0x00) in
+    let c = event_call (Some 0x00) 2 5 (vectored 0x17) in
+    let d = event_call (Some 0x00) 1 5 (vectored 0x17) in
+    let e = event_call None 1 5 (vectored 0x17) in
     (answer_code a.answer, answer_code Broke)
     ∷ (a.steps, 1)
     ∷ (a.state.pc, 0x0201)

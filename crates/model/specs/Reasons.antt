@@ -1,7 +1,7 @@
 -- Why a program is refused with 11: a reason for each of the admission rules of document 01 and of document 02, C-19 (quoted with its
 -- name), and what makes a reason true of a program. `Reason` and `Place` are declared in src/lib.rt.
 -- Assumes nothing.
-use Rattle.std.specs.Prelude.{◌≡◌, not, List, ℕ, ◌+◌, ◌*◌, ◌≤◌, ◌<◌, T, length}
+use Rattle.std.specs.Prelude.{◌≡◌, not, List, ℕ, ◌+◌, ◌*◌, ◌≤◌, ◌<◌, T, length, Option, Some, None, Result, Ok, Err}
 use Rattle.model.specs.Machine.{start}
 use Rattle.model.specs.Instruction.{working, returning, taken_from, length_of}
 use Rattle.model.specs.Run.{Answer}
@@ -10,9 +10,10 @@ use Rattle.model.specs.Admission.{Mark, byte_at, Within, allowed, depth_after, W
 use Rattle.model.specs.Admission.Mark.{unmarked, marked}
 use Rattle.model.specs.Admission.Way.{begin, go, return}
 use Rattle.model.specs.Calls.{admit_call}
+use Rattle.model.specs.Refusals.{refusal_number}
 use Rattle.model.specs.declared.Place.{Place}
 use Rattle.model.specs.declared.Reason.{Reason}
-use Rattle.model.specs.declared.ExplainReply.{ExplainReply}
+use Rattle.model.specs.declared.Refusal.{Refusal}
 
 -- ---- a way that can be believed: up to its end each instruction obeys the rules that speak of it alone
 
@@ -121,7 +122,7 @@ Answers program answer = (sheet : List ℕ) → length sheet ≡ sheet_record * 
 
 -- "refused with 5 or 9 as admission is; admitted, exactly when admission admits; else a reason", and it is true of the program. Where
 -- several are true, which one is told is open.
-abbrev pub Explains : List ℕ → ExplainReply → Type 0
-Explains program (ExplainReply.Refused n) = Answers program (Refused n) × (n ≡ 11 → ⊥)
-Explains program ExplainReply.Admitted = Answers program Admitted
-Explains program (ExplainReply.Because reason) = Answers program (Refused 11) × True program reason
+abbrev pub Explains : List ℕ → Result (Option Reason) Refusal → Type 0
+Explains program (Err refusal) = Answers program (Refused (refusal_number refusal)) × (refusal_number refusal ≡ 11 → ⊥)
+Explains program (Ok None) = Answers program Admitted
+Explains program (Ok (Some reason)) = Answers program (Refused 11) × True program reason

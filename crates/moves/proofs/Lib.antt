@@ -1,4 +1,4 @@
 pub mod Calls
-pub mod Moving
+pub mod Judging
 pub mod Records
 pub mod Sheets

@@ -1,34 +1,29 @@
 -- Laws of the tests of a record, and of the record that is put. Assumes nothing.
 use mathlib.Core.Path.{◌≡◌, refl, sym, ap, ◌∙◌}
 use mathlib.Core.Bool.{Bool, true, false, cond, not, ◌&&◌}
-use mathlib.Core.List.{List, [], ◌∷◌, ◌++◌, append_assoc}
-use Prim.Native.Nat.{ℕ, zero, suc, ◌+◌, ◌-◌, ◌*◌, ◌≤◌, ◌<◌}
-use native.Mathlib.Numerals.{add-one}
+use mathlib.Core.List.{List, [], ◌∷◌, ◌++◌, append_assoc, append-nil}
+use Prim.Native.Nat.{ℕ, zero, suc, ◌+◌, ◌-◌, ◌*◌, ◌≤◌}
 use native.Mathlib.Omega.{arith}
 use lib.Dec.{eqb}
-use lib.ListN.{length, get_or, take, drop, length-drop, drop_of_length-le}
-use lib.Seq.{drop-cons, drop-drop, take_all, take_at, drop_at}
-use borrow.Author.Tests.{eq-eqb, ne_eqb, lt-ltb, not-false, not-true}
+use lib.ListN.{length, get_or, take, drop, length-append, length-drop, drop_of_length-le}
+use lib.Seq.{take_all, take_at, length-take-le}
+use borrow.Author.Tests.{ne_eqb, lt-ltb, not-false, not-true}
 use borrow.Rule.Slice.PartMut.{put_mid}
+use Rattle.std.specs.List.{list_any}
 use Rattle.model.specs.Bytes.{zeros, word}
 use Rattle.model.specs.Machine.{start}
 use Rattle.model.specs.Calls.{all_zero}
 use Rattle.model.specs.Admission.{sheet_record}
-use Rattle.model.specs.Moves.{old_record, mark_byte, wrong_old, wrong_new, stays_new, widened}
+use Rattle.model.specs.Moves.{old_record, mark_byte, wrong_old, wrong_new, stays_new, widened, narrowed}
 use Rattle.model.proofs.Bytes.{number_two}
 use Rattle.buffers.proofs.Parts.{placed-from}
 
 -- ---- bytes that are all zero
 
-module _ (bytes : List ℕ) (i : ℕ) (same : all_zero (drop i bytes) ≡ all_zero bytes) where
-  pub byte-found : i < length bytes → (get_or bytes i 0 ≡ 0 → ⊥) → true ≡ not (all_zero bytes)
-  byte-found h g = rw (← same, drop-cons bytes i 0 h, ne_eqb (get_or bytes i 0) 0 g)
-
-  pub byte-zero : i < length bytes → get_or bytes i 0 ≡ 0 → all_zero (drop (i + 1) bytes) ≡ all_zero bytes
-  byte-zero h g = rw add-one (sym (rw (drop-cons bytes i 0 h, eq-eqb (get_or bytes i 0) 0 g)) ∙ same)
-
-  pub all_seen : length bytes ≤ i → false ≡ not (all_zero bytes)
-  all_seen h = rw (← same, drop_of_length-le bytes h)
+pub some_not_zero : (bytes : List ℕ) → list_any (λ byte. not (eqb byte 0)) bytes ≡ not (all_zero bytes)
+some_not_zero [] = refl
+some_not_zero (zero ∷ bytes) = some_not_zero bytes
+some_not_zero (suc b ∷ bytes) = rw (ne_eqb (suc b) 0 (λ z. omega arith))
 
 and_assoc : (a b c : Bool) → (a && (b && c)) ≡ ((a && b) && c)
 and_assoc true b c = refl
@@ -106,12 +101,25 @@ widened_is bytes = by (eqb (mark_byte bytes) 1)
     by true = rw append_assoc
     by false = rw append_assoc
 
-pub put_is : (bytes part placed ys : List ℕ) (r : ℕ) → length bytes ≡ old_record → placed ≡ bytes ++ drop (length bytes) part
+pub put_is : (bytes part placed ys : List ℕ) (r : ℕ) → length bytes ≡ old_record → length part ≡ sheet_record
+    → placed ≡ bytes ++ drop (length bytes) part
     → r ≡ cond (eqb (mark_byte bytes) 1) 1 0
     → ys ≡ (r ∷ 0 ∷ 0 ∷ 0 ∷ []) ++ drop 4 (take (length placed - 4) (drop 4 placed))
-    → put_mid 4 (length placed - 4) placed ys ≡ widened bytes ++ drop sheet_record part
-put_is bytes part placed ys r l p e f =
+    → put_mid 4 (length placed - 4) placed ys ≡ widened bytes
+put_is bytes part placed ys r l p8 p e f =
     let front : take 4 placed ≡ bytes = rw p (take_at bytes _ 4 l) in
-    let back : drop 4 placed ≡ drop 4 part = rw (p, l) (drop_at bytes _ 4 l) in
-    placed-from 4 placed (r ∷ 0 ∷ 0 ∷ 0 ∷ []) ys f
-    ∙ rw (front, ← drop-drop 4 4 placed, back, drop-drop 4 4 part, e, widened_is bytes)
+    let long : length placed ≡ sheet_record = rw (p, length-append, l, length-drop) (omega (arith, p8)) in
+    let short : length placed ≤ sheet_record = omega (arith, long) in
+    let back : drop sheet_record placed ≡ [] = drop_of_length-le placed short in
+    placed-from 4 (length placed - 4) placed (r ∷ 0 ∷ 0 ∷ 0 ∷ []) ys (omega (arith, long)) f
+    ∙ rw (front, back, e, widened_is bytes) (append-nil _)
+
+-- the first four bytes are put over the whole part
+pub four_put : (bytes part ys : List ℕ) → length bytes ≡ sheet_record → length part ≡ old_record
+    → ys ≡ take old_record bytes ++ drop (length (take old_record bytes)) part → ys ≡ narrowed bytes
+unfolding narrowed
+four_put bytes part ys l p e =
+    let n : length (take old_record bytes) ≡ old_record = length-take-le old_record bytes (omega (arith, l)) in
+    let short : length part ≤ old_record = omega (arith, p) in
+    let rest : drop old_record part ≡ [] = drop_of_length-le part short in
+    e ∙ rw (n, rest) (append-nil _)

@@ -1,14 +1,15 @@
-// The two moves of a sheet: from four bytes a record to eight, and back.
+// The two moves of a sheet: from four bytes a record to eight, and back; and the loops over the records of a file, for every move.
 #![tactic(auto)]
 
-ghost use Rattle.std.specs.Prelude.{◌≡◌, cond, not, ◌++◌, ◌%◌, ◌≤◌, eqb, length, drop};
+ghost use Rattle.std.specs.Prelude.{◌≡◌, ℕ, List, Bool, ◌<◌, cond, not, ◌++◌, ◌/◌, ◌*◌, ◌≤◌, eqb, length, drop};
 ghost use Rattle.model.specs.Calls.{all_zero};
 ghost use Rattle.model.specs.Admission.{sheet_record};
-ghost use Rattle.model.specs.Moves.{old_record, wrong_old, wrong_new, stays_new, widened, records_of, some_record, widened_sheet, narrowed_sheet, widen_call, narrow_call};
+ghost use Rattle.model.specs.Moves.{old_record, wrong_old, wrong_new, stays_new, widened, narrowed, records_of, some_record, each_record, widen_call, narrow_call};
 ghost use Rattle.model.specs.Replies.{of_write};
+ghost use Rattle.moves.specs.Judging.{Tells, Puts};
 
 use buffers::place;
-use model::WriteReply;
+use model::{Refusal, START};
 use stack::two_bytes;
 
 // "the old four": mark, working depth, return depth, program byte.
@@ -19,8 +20,6 @@ const NEW_RECORD: usize = 8;
 
 const MARKED: u8 = 1;
 
-const START: u16 = 0x0100;
-
 const START_HIGH: u8 = 0x01;
 
 // ---- a record
@@ -29,14 +28,7 @@ const START_HIGH: u8 = 0x01;
 fn not_zero(bytes: &[u8]) -> bool
     ensures { result ≡ not (all_zero bytes.now) }
 {
-    let mut i = 0;
-    while i < bytes.len() {
-        if bytes[i] != 0 {
-            return true;
-        }
-        i += 1;
-    }
-    false
+    bytes.iter().any(|byte| *byte != 0)
 }
 
 // "a mark above 1, an unmarked record not 0 but for its program byte", in a record of either form.
@@ -88,130 +80,97 @@ fn routine_high(mark: u8) -> u8
     if mark == MARKED { START_HIGH } else { 0 }
 }
 
-// The record in the new form at the start of the part.
-fn put_widened(part: &mut [u8], bytes: &[u8])
-    requires { (length bytes.now ≡ old_record) × (sheet_record ≤ length part.old) }
-    ensures { part.new ≡ widened bytes.now ++ drop sheet_record part.old }
+// The record in the new form.
+fn put_widened(bytes: &[u8], part: &mut [u8])
+    requires { (length bytes.now ≡ old_record) × (length part.old ≡ sheet_record) }
+    ensures { part.new ≡ widened bytes.now }
 {
     place(part, bytes);
     place(&mut part[4..], &[routine_high(bytes[0]), 0, 0, 0]);
 }
 
-// ---- a sheet
-
-// A record of the old form is wrong.
-fn some_wrong_old(sheet: &[u8]) -> bool
-    requires { length sheet.now % old_record ≡ 0 }
-    ensures { result ≡ some_record wrong_old (records_of old_record sheet.now) }
+// The record in the old form: its first four bytes.
+fn put_narrowed(bytes: &[u8], part: &mut [u8])
+    requires { (length bytes.now ≡ sheet_record) × (length part.old ≡ old_record) }
+    ensures { part.new ≡ narrowed bytes.now }
 {
-    let mut at = 0;
-    while at < sheet.len() {
-        let end = at + OLD_RECORD;
-        if wrong_old(&sheet[at..end]) {
+    place(part, &bytes[..OLD_RECORD]);
+}
+
+// ---- a sheet, or another file of records of one size
+
+// The test says yes to some whole record of this size.
+pub fn some_record<F: Fn(&[u8]) -> bool>(file: &[u8], size: usize, test: F) -> bool
+    requires sized { 0 < size }
+    requires callable { (entry : _) → length entry.now ≡ size → F.pre test entry }
+    ensures { (holds : List ℕ → Bool) → Tells size (F.post test) holds → result ≡ some_record holds (records_of size file.now) }
+{
+    for record in file.chunks_exact(size) {
+        if test(record) {
             return true;
         }
-        at = end;
     }
     false
 }
 
-// A record of the new form is wrong.
-fn some_wrong_new(sheet: &[u8]) -> bool
-    requires { length sheet.now % sheet_record ≡ 0 }
-    ensures { result ≡ some_record wrong_new (records_of sheet_record sheet.now) }
+// Each whole record of this size in another form, of so many bytes, one after the other; the rest of the output stays. Its place is counted,
+// since of what is written through the items of `chunks_exact_mut` the prover knows nothing.
+pub fn each_record<F: Fn(&[u8], &mut [u8])>(
+    file: &[u8],
+    size: usize,
+    output: &mut [u8],
+    room: usize,
+    change: F,
+)
+    requires sized { 0 < size }
+    requires callable { (entry : _) (part : _) → length entry.now ≡ size → length part.now ≡ room → F.pre change entry part }
+    requires fits { length file.now / size * room ≤ length output.old }
+    ensures { (changed : List ℕ → List ℕ) → Puts size room (F.post change) changed
+        → output.new ≡ each_record changed (records_of size file.now) ++ drop (length (each_record changed (records_of size file.now))) output.old }
 {
-    let mut at = 0;
-    while at < sheet.len() {
-        let end = at + NEW_RECORD;
-        if wrong_new(&sheet[at..end]) {
-            return true;
-        }
-        at = end;
-    }
-    false
-}
-
-// A record can not go back.
-fn some_stays_new(sheet: &[u8]) -> bool
-    requires { length sheet.now % sheet_record ≡ 0 }
-    ensures { result ≡ some_record stays_new (records_of sheet_record sheet.now) }
-{
-    let mut at = 0;
-    while at < sheet.len() {
-        let end = at + NEW_RECORD;
-        if stays_new(&sheet[at..end]) {
-            return true;
-        }
-        at = end;
-    }
-    false
-}
-
-// Each record in the new form, one after the other; the rest of the output stays.
-fn widen_all(old: &[u8], output: &mut [u8])
-    requires { (length old.now % old_record ≡ 0) × (length (widened_sheet old.now) ≤ length output.old) }
-    ensures { output.new ≡ widened_sheet old.now ++ drop (length (widened_sheet old.now)) output.old }
-{
-    let mut at = 0;
-    let mut to = 0;
-    while at < old.len() {
-        let end = at + OLD_RECORD;
-        put_widened(&mut output[to..], &old[at..end]);
-        at = end;
-        to += NEW_RECORD;
-    }
-}
-
-// Each record's first four bytes, one after the other; the rest of the output stays.
-fn narrow_all(new: &[u8], output: &mut [u8])
-    requires { (length new.now % sheet_record ≡ 0) × (length (narrowed_sheet new.now) ≤ length output.old) }
-    ensures { output.new ≡ narrowed_sheet new.now ++ drop (length (narrowed_sheet new.now)) output.old }
-{
-    let mut at = 0;
-    let mut to = 0;
-    while at < new.len() {
-        let end = at + OLD_RECORD;
-        place(&mut output[to..], &new[at..end]);
-        at += NEW_RECORD;
-        to += OLD_RECORD;
+    let mut put = 0;
+    for entry in file.chunks_exact(size) {
+        let next = put + room;
+        change(entry, &mut output[put..next]);
+        put = next;
     }
 }
 
 // ---- the calls
 
 // "Old sheets move to the new form with routine 0100": 18, then 13 "for a short output", each with "nothing written".
-pub fn widen_sheet(old: &[u8], output: &mut [u8]) -> WriteReply
+pub fn widen_sheet(old: &[u8], output: &mut [u8]) -> Result<usize, Refusal>
     ensures { of_write output.new result ≡ widen_call old.now output.old }
 {
     if old.len() % OLD_RECORD != 0 {
-        return WriteReply::Refused(18);
+        return Err(Refusal::SheetBroken);
     }
-    if some_wrong_old(old) {
-        return WriteReply::Refused(18);
+    if some_record(old, OLD_RECORD, wrong_old) {
+        return Err(Refusal::SheetBroken);
     }
     if output.len() / 2 < old.len() {
-        return WriteReply::Refused(13);
+        return Err(Refusal::OutputShort);
     }
-    widen_all(old, output);
-    WriteReply::Written(old.len() * 2)
+    each_record(old, OLD_RECORD, output, NEW_RECORD, put_widened);
+    Ok(old.len() * 2)
 }
 
 // "and back if no other is marked": 18, then 19 "for one that can't go back", then 13.
-pub fn narrow_sheet(new: &[u8], output: &mut [u8]) -> WriteReply
+pub fn narrow_sheet(new: &[u8], output: &mut [u8]) -> Result<usize, Refusal>
     ensures { of_write output.new result ≡ narrow_call new.now output.old }
 {
     if new.len() % NEW_RECORD != 0 {
-        return WriteReply::Refused(18);
+        return Err(Refusal::SheetBroken);
     }
-    if some_wrong_new(new) {
-        return WriteReply::Refused(18);
+    if some_record(new, NEW_RECORD, wrong_new) {
+        return Err(Refusal::SheetBroken);
     }
-    if some_stays_new(new) {
-        return WriteReply::Refused(19);
+    if some_record(new, NEW_RECORD, stays_new) {
+        return Err(Refusal::OtherRoutine);
     }
     if output.len() < new.len() / 2 {
-        return WriteReply::Refused(13);
+        return Err(Refusal::OutputShort);
     }
-    narrow_all(new, output);
-    WriteReply::Written(new.len() / 2)
+    each_record(new, NEW_RECORD, output, OLD_RECORD, put_narrowed);
+    Ok(new.len() / 2)
 }

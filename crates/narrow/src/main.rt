@@ -2,24 +2,11 @@
 #![tactic(auto)]
 
 use convert::convert;
-use input::{argument_count, asks_for_help};
 use records::Direction;
-use std::io::Print;
 
-fn usage(to: &impl Print) {
-    let _ = to.write_all(
-        b"usage: narrow FILE > OLD\nWrites the 128-byte frame records of FILE as 64-byte records, each cut to its first 64 bytes.\nFILE is read twice; nothing is written if it is refused, and standard error then says\nrefused and the number: 15 FILE is not of whole 128-byte records; 8 a data length is above 126,\nor a byte past the data is not 0; 16 a data length is above 62.\nStandard error is empty if all went well.\n",
-    );
-}
+const USAGE: &[u8] =
+    b"usage: narrow FILE > OLD\nWrites the 128-byte frame records of FILE as 64-byte records, each cut to its first 64 bytes.\nFILE is read twice; nothing is written if it is refused, and standard error then says\nrefused and the number: 15 FILE is not of whole 128-byte records; 8 a data length is above 126,\nor a byte past the data is not 0; 16 a data length is above 62.\nStandard error is empty if all went well.\n";
 
 fn main(rt: HostRuntime) {
-    if asks_for_help(&rt) {
-        usage(&rt.stdout());
-        return;
-    }
-    if argument_count(&rt) != 2 {
-        usage(&rt.stderr());
-        return;
-    }
-    convert(&rt, Direction::Narrow);
+    convert(&rt, Direction::Narrow, USAGE);
 }

@@ -1,37 +1,34 @@
-// The operations that need their main stack alone, in both widths, with keep as a flag.
+// The operations that need their main stack alone, in both widths, with keep as a flag: two flags, since an arm of `execute` writes the one out
+// and hands on the other.
 #![tactic(auto)]
 
-ghost use Rattle.std.specs.Prelude.{◌≡◌, [], length};
+ghost use Rattle.std.specs.Prelude.{◌≡◌, []};
 ghost use Rattle.alu.specs.Numbers.{arithmetic_at, comparison_at};
-ghost use Rattle.model.specs.Machine.{stack_size, stack};
+ghost use Rattle.model.specs.Machine.{stack};
 ghost use Rattle.model.specs.Instruction.Op.{INC, POP, NIP, SWP, ROT, DUP, OVR, compare, compute, SFT};
 ghost use Rattle.operations.specs.After.{main_with};
 
 use alu::{compared, computed, flag, shifted};
-use stack::{lower, operands, push, push_byte, size_of};
-use std::num::wrapping_add_u16;
+use stack::{Stack, lower, operands, push, push_byte, size_of};
 
 // INC a: a+1.
-pub fn inc(s: &mut [u8], p: u8, wide: bool, keep: bool) -> u8
-    requires { length s.old ≡ stack_size }
+pub fn inc(s: &mut Stack, p: u8, wide: bool, keep: bool) -> u8
     ensures { stack s.new result ≡ main_with [] [] 0 INC wide keep (stack s.old p) }
 {
     let n = size_of(wide);
     let x = operands(s, p, n, 0, 0);
-    push(s, lower(p, keep, n), wide, wrapping_add_u16(x[0], 1))
+    push(s, lower(p, keep, n), wide, x[0].wrapping_add(1))
 }
 
 // POP a: nothing.
-pub fn pop(s: &[u8], p: u8, wide: bool, keep: bool) -> u8
-    requires { length s.now ≡ stack_size }
+pub fn pop(s: &Stack, p: u8, wide: bool, keep: bool) -> u8
     ensures { stack s.now result ≡ main_with [] [] 0 POP wide keep (stack s.now p) }
 {
     lower(p, keep, size_of(wide))
 }
 
 // NIP a b: b.
-pub fn nip(s: &mut [u8], p: u8, wide: bool, keep: bool) -> u8
-    requires { length s.old ≡ stack_size }
+pub fn nip(s: &mut Stack, p: u8, wide: bool, keep: bool) -> u8
     ensures { stack s.new result ≡ main_with [] [] 0 NIP wide keep (stack s.old p) }
 {
     let n = size_of(wide);
@@ -40,8 +37,7 @@ pub fn nip(s: &mut [u8], p: u8, wide: bool, keep: bool) -> u8
 }
 
 // SWP a b: b a.
-pub fn swp(s: &mut [u8], p: u8, wide: bool, keep: bool) -> u8
-    requires { length s.old ≡ stack_size }
+pub fn swp(s: &mut Stack, p: u8, wide: bool, keep: bool) -> u8
     ensures { stack s.new result ≡ main_with [] [] 0 SWP wide keep (stack s.old p) }
 {
     let n = size_of(wide);
@@ -51,8 +47,7 @@ pub fn swp(s: &mut [u8], p: u8, wide: bool, keep: bool) -> u8
 }
 
 // ROT a b c: b c a.
-pub fn rot(s: &mut [u8], p: u8, wide: bool, keep: bool) -> u8
-    requires { length s.old ≡ stack_size }
+pub fn rot(s: &mut Stack, p: u8, wide: bool, keep: bool) -> u8
     ensures { stack s.new result ≡ main_with [] [] 0 ROT wide keep (stack s.old p) }
 {
     let n = size_of(wide);
@@ -63,8 +58,7 @@ pub fn rot(s: &mut [u8], p: u8, wide: bool, keep: bool) -> u8
 }
 
 // DUP a: a a.
-pub fn dup(s: &mut [u8], p: u8, wide: bool, keep: bool) -> u8
-    requires { length s.old ≡ stack_size }
+pub fn dup(s: &mut Stack, p: u8, wide: bool, keep: bool) -> u8
     ensures { stack s.new result ≡ main_with [] [] 0 DUP wide keep (stack s.old p) }
 {
     let n = size_of(wide);
@@ -74,8 +68,7 @@ pub fn dup(s: &mut [u8], p: u8, wide: bool, keep: bool) -> u8
 }
 
 // OVR a b: a b a.
-pub fn ovr(s: &mut [u8], p: u8, wide: bool, keep: bool) -> u8
-    requires { length s.old ≡ stack_size }
+pub fn ovr(s: &mut Stack, p: u8, wide: bool, keep: bool) -> u8
     ensures { stack s.new result ≡ main_with [] [] 0 OVR wide keep (stack s.old p) }
 {
     let n = size_of(wide);
@@ -85,9 +78,8 @@ pub fn ovr(s: &mut [u8], p: u8, wide: bool, keep: bool) -> u8
     push(s, r, wide, x[0])
 }
 
-// EQU, NEQ, GTH, LTH a b, as o = 0 to 3: one byte, 1 or 0.
-pub fn compare(s: &mut [u8], p: u8, wide: bool, keep: bool, o: u8) -> u8
-    requires { length s.old ≡ stack_size }
+// EQU, NEQ, GTH, LTH a b, as o = 0 to 3: one byte, 1 or 0. Here and in `compute` o stays a number, as in `alu`.
+pub fn compare(s: &mut Stack, p: u8, wide: bool, keep: bool, o: u8) -> u8
     ensures { stack s.new result ≡ main_with [] [] 0 (compare (comparison_at o)) wide keep (stack s.old p) }
 {
     let n = size_of(wide);
@@ -96,8 +88,7 @@ pub fn compare(s: &mut [u8], p: u8, wide: bool, keep: bool, o: u8) -> u8
 }
 
 // ADD, SUB, MUL, DIV, AND, ORA, EOR a b, as o = 0 to 6.
-pub fn compute(s: &mut [u8], p: u8, wide: bool, keep: bool, o: u8) -> u8
-    requires { length s.old ≡ stack_size }
+pub fn compute(s: &mut Stack, p: u8, wide: bool, keep: bool, o: u8) -> u8
     ensures { stack s.new result ≡ main_with [] [] 0 (compute (arithmetic_at o)) wide keep (stack s.old p) }
 {
     let n = size_of(wide);
@@ -106,8 +97,7 @@ pub fn compute(s: &mut [u8], p: u8, wide: bool, keep: bool, o: u8) -> u8
 }
 
 // SFT a shift8.
-pub fn sft(s: &mut [u8], p: u8, wide: bool, keep: bool) -> u8
-    requires { length s.old ≡ stack_size }
+pub fn sft(s: &mut Stack, p: u8, wide: bool, keep: bool) -> u8
     ensures { stack s.new result ≡ main_with [] [] 0 SFT wide keep (stack s.old p) }
 {
     let n = size_of(wide);

@@ -2,16 +2,16 @@
 #![tactic(auto)]
 
 ghost use Rattle.std.specs.Prelude.{◌≡◌, ◌+◌, ◌*◌, ◌≤◌, ◌<◌, length};
-ghost use Rattle.model.specs.Instruction.{working, returning, taken_from, RowTable};
+ghost use Rattle.model.specs.Instruction.{working, returning, taken_from};
 ghost use Rattle.model.specs.Admission.{admit_most, depth_after, sheet_record};
 ghost use Rattle.model.specs.Reasons.{Stands, True};
 ghost use Rattle.worklist.specs.Worklist.{place_at, Lost, Told, ToldIn};
 ghost use Rattle.reasons.specs.Next.{next_place};
 
-use model::{Place, Reason};
+use model::{Place, Reason, START};
 use rules::{depth_by_table, jump_target};
-use table::{LENGTH, RETURNING, WORKING, entry};
-use worklist::{JSI, PLACES, RETURN, RULES, Rule, SHEET_RECORD, START, routine_of, rule_in, wide};
+use table::{Column, Stack, Table};
+use worklist::{Fault, JSI, RETURN, Rule, SHEET_RECORD, routine_of};
 
 // Place i of the program, with the depths and the routine of its record.
 fn place_of(sheet: &[u8], i: usize) -> Place
@@ -30,15 +30,15 @@ fn place_of(sheet: &[u8], i: usize) -> Place
 }
 
 // An address where an instruction with these depths goes on, in this routine.
-fn next_of(rows: &[u8; 1280], byte: u8, work: u8, ret: u8, at: u16, routine: u16) -> Place
-    requires { RowTable rows.now × (taken_from working byte ≤ work) × (taken_from returning byte ≤ ret)
+fn next_of(table: &Table, byte: u8, work: u8, ret: u8, at: u16, routine: u16) -> Place
+    requires { (taken_from working byte ≤ work) × (taken_from returning byte ≤ ret)
         × (depth_after working byte work ≤ 255) × (depth_after returning byte ret ≤ 255) }
     ensures { result ≡ next_place byte work ret at routine }
 {
     Place {
         at,
-        work: depth_by_table(rows, byte, WORKING, work) as u8,
-        ret: depth_by_table(rows, byte, RETURNING, ret) as u8,
+        work: depth_by_table(table, byte, Stack::Working, work) as u8,
+        ret: depth_by_table(table, byte, Stack::Returning, ret) as u8,
         routine,
     }
 }
@@ -53,7 +53,7 @@ fn astray(program: &[u8], sheet: &[u8], here: Place, next: Place) -> Reason
     if at < START {
         return Reason::Outside(here, next);
     }
-    let i = wide(at - START);
+    let i = usize::from(at - START);
     if program.len() <= i {
         return Reason::Outside(here, next);
     }
@@ -61,8 +61,8 @@ fn astray(program: &[u8], sheet: &[u8], here: Place, next: Place) -> Reason
 }
 
 // The rule fails at place i; j is the place of a return of which it speaks too.
-fn reason(rows: &[u8; 1280], program: &[u8], sheet: &[u8], rule: Rule, i: usize, j: usize) -> Reason
-    requires { RowTable rows.now × Told program.now sheet.now rule i j }
+fn reason(table: &Table, program: &[u8], sheet: &[u8], rule: Rule, i: usize, j: usize) -> Reason
+    requires { Told program.now sheet.now rule i j }
     ensures { True program.now result }
 {
     let here = place_of(sheet, i);
@@ -76,22 +76,34 @@ fn reason(rows: &[u8; 1280], program: &[u8], sheet: &[u8], rule: Rule, i: usize,
     let ret = here.ret;
     match rule {
         Rule::Forbidden => Reason::Forbidden(here),
-        Rule::Cut => Reason::Cut(here, entry(rows, byte, LENGTH)),
-        Rule::FewWorking => Reason::FewWorking(here, entry(rows, byte, WORKING)),
-        Rule::ManyWorking => Reason::ManyWorking(here, depth_by_table(rows, byte, WORKING, work)),
-        Rule::FewReturn => Reason::FewReturn(here, entry(rows, byte, RETURNING)),
-        Rule::ManyReturn => Reason::ManyReturn(here, depth_by_table(rows, byte, RETURNING, ret)),
+        Rule::Cut => Reason::Cut(here, table.entry(byte, Column::Length)),
+        Rule::FewWorking => Reason::FewWorking(
+            here,
+            table.entry(byte, Column::Taken(Stack::Working)),
+        ),
+        Rule::ManyWorking => Reason::ManyWorking(
+            here,
+            depth_by_table(table, byte, Stack::Working, work),
+        ),
+        Rule::FewReturn => Reason::FewReturn(
+            here,
+            table.entry(byte, Column::Taken(Stack::Returning)),
+        ),
+        Rule::ManyReturn => Reason::ManyReturn(
+            here,
+            depth_by_table(table, byte, Stack::Returning, ret),
+        ),
         Rule::BelowFloor => {
-            let taken = entry(rows, byte, RETURNING);
-            Reason::BelowFloor(here, taken, place_of(sheet, wide(routine - START)))
+            let taken = table.entry(byte, Column::Taken(Stack::Returning));
+            Reason::BelowFloor(here, taken, place_of(sheet, usize::from(routine - START)))
         }
         Rule::After => {
-            let after = START + (i + entry(rows, byte, LENGTH) as usize) as u16;
+            let after = START + (i + usize::from(table.entry(byte, Column::Length))) as u16;
             astray(
                 program,
                 sheet,
                 here,
-                next_of(rows, byte, work, ret, after, routine),
+                next_of(table, byte, work, ret, after, routine),
             )
         }
         Rule::Target => {
@@ -101,7 +113,7 @@ fn reason(rows: &[u8; 1280], program: &[u8], sheet: &[u8], rule: Rule, i: usize,
                 program,
                 sheet,
                 here,
-                next_of(rows, byte, work, ret, target, to),
+                next_of(table, byte, work, ret, target, to),
             )
         }
         Rule::Back => {
@@ -116,24 +128,23 @@ fn reason(rows: &[u8; 1280], program: &[u8], sheet: &[u8], rule: Rule, i: usize,
             astray(program, sheet, here, next)
         }
         Rule::ReturnOffFloor => {
-            Reason::ReturnOffFloor(here, place_of(sheet, wide(routine - START)))
+            Reason::ReturnOffFloor(here, place_of(sheet, usize::from(routine - START)))
         }
         Rule::ReturnsDiffer => Reason::ReturnsDiffer(here, place_of(sheet, j)),
     }
 }
 
-// The reason of a rule that fails, from the number that has it and its places.
-pub fn reason_of(rows: &[u8; 1280], program: &[u8], sheet: &[u8], fault: usize) -> Reason
-    requires { RowTable rows.now × ToldIn program.now sheet.now fault }
+// The reason of a rule that fails, and where.
+pub fn reason_of(table: &Table, program: &[u8], sheet: &[u8], fault: &Fault) -> Reason
+    requires { ToldIn program.now sheet.now fault.now }
     ensures { True program.now result }
 {
-    let places = fault / RULES;
     reason(
-        rows,
+        table,
         program,
         sheet,
-        rule_in(fault),
-        places % PLACES,
-        places / PLACES,
+        fault.rule(),
+        fault.at(),
+        fault.other(),
     )
 }

@@ -8,13 +8,15 @@ use native.Mathlib.Omega.{arith}
 use lib.Dec.{eqb, lit<}
 use lib.ListN.{length, take, length-append}
 use lib.Seq.{take-append-le, drop-append-le}
-use borrow.Author.Tests.{eq-eqb, ne_eqb, le-ltb, not-false, eqb-true}
+use borrow.Author.Tests.{ne_eqb, le-ltb, not-false, eqb-true}
+use Rattle.std.specs.Prelude.{Result, Ok, Err}
 use Rattle.model.specs.Calls.{refusal}
 use Rattle.model.specs.Writes.{WriteResult, write_unless}
 use Rattle.model.specs.Moves.{pieces, records_of, some_record, each_record}
 use Rattle.model.specs.RecordMoves.{old_form, new_form, moved_file, file_rows, move_rows, move_call}
 use Rattle.model.specs.Replies.{of_write}
-use Rattle.model.specs.declared.WriteReply.{WriteReply}
+use Rattle.model.specs.Refusals.{refusal_number}
+use Rattle.model.specs.declared.Refusal.{Refusal}
 use Rattle.model.proofs.Numbers.{no_rows, passed_over, given_by}
 use Rattle.model.proofs.Moves.{first_record, no_record, by_records, wrote_is}
 use Rattle.model.proofs.RecordMoves.{moved_size}
@@ -59,27 +61,21 @@ module _ (file output : List ℕ) (room : 2 * length file ≤ length output) whe
         (e ∙ ap (λ n. write_unless n (moved_file (from_form direction) (to_form direction) file) output) number_is)
 
     -- what `take_block` answers, from the reply of the move
-    module _ (reply : WriteReply) (after : List ℕ) (e : of_write after reply ≡ move_call (from_form direction) (to_form direction) file output) (number : ℕ) where
+    module _ (reply : Result ℕ Refusal) (after : List ℕ) (e : of_write after reply ≡ move_call (from_form direction) (to_form direction) file output) (number : ℕ) where
       abbrev Answered : ℕ → ℕ → Type 0
       Answered n w = (n ≡ earlier number (file_number direction file)) × ((w ≤ length after) × (take w after ≡ file_moved direction file))
 
-      pub block_written : (w : ℕ) → reply ≡ WriteReply.Written w → (n : ℕ) → n ≡ earlier number 0 → Answered n w
+      pub block_written : (w : ℕ) → reply ≡ Ok w → (n : ℕ) → n ≡ earlier number 0 → Answered n w
       block_written w q n h =
           let b = block_is _ (sym (ap (of_write after) q) ∙ e) in
           (h ∙ ap (earlier number) b.0, (b.1, b.2))
 
-      pub block_refused : (k : ℕ) → reply ≡ WriteReply.Refused k → (n : ℕ) → n ≡ earlier number k → Answered n 0
-      block_refused k q n h =
+      pub block_refused : (r : Refusal) → reply ≡ Err r → (n : ℕ) → n ≡ earlier number (refusal_number r) → Answered n 0
+      block_refused r q n h =
           let b = block_is _ (sym (ap (of_write after) q) ∙ e) in
           (h ∙ ap (earlier number) b.0, (b.1, b.2))
 
 -- ---- a file in two parts
-
-pub either_first : (a b n : ℕ) → a ≡ n → true ≡ (eqb a n || eqb b n)
-either_first a b n e = sym (rw (eq-eqb a n e))
-
-pub either_second : (a b n : ℕ) → (a ≡ n → ⊥) → eqb b n ≡ (eqb a n || eqb b n)
-either_second a b n h = sym (rw (ne_eqb a n h))
 
 module _ (a b : ℕ) where
   pub earlier_15 : (p : Bool) → p ≡ (eqb a 15 || eqb b 15) → p ≡ true → 15 ≡ earlier a b

@@ -2,12 +2,12 @@
 use mathlib.Core.Path.{◌≡◌, refl, sym, ap, ◌∙◌}
 use mathlib.Core.Bool.{Bool, true, false, not}
 use mathlib.Core.List.{List, [], ◌++◌}
-use Prim.Native.Nat.{ℕ, ◌+◌, ◌*◌, ◌/◌, ◌%◌, ◌≤◌, ◌<◌}
+use Prim.Native.Nat.{ℕ, ◌*◌, ◌/◌, ◌%◌, ◌≤◌, ◌<◌}
 use native.Mathlib.Nat.{div-lt_iff_lt-mul, le-div_iff_mul-le}
 use lib.ListN.{length, drop}
 use borrow.Author.Tests.{ne_eqb, lt-ltb}
 use Rattle.model.specs.Calls.{refusal}
-use Rattle.model.specs.Writes.{WriteResult, unwritten, write_unless}
+use Rattle.model.specs.Writes.{unwritten, write_unless}
 use Rattle.model.specs.Moves.{records_of, some_record}
 use Rattle.model.specs.RecordMoves.{broken, too_long, moved_file, file_rows, move_rows, move_call}
 use Rattle.model.specs.declared.Form.{Form}
@@ -58,12 +58,3 @@ module _ (from to : Form) (file output : List ℕ) where
             → after ≡ moved_file from to file ++ drop (length (moved_file from to file)) output
             → record { number = 0; length = length file / from.size * to.size; output = after } ≡ move_call from to file output
         move_written s after a = rw (← moved_size from to file p q whole, a) (sym (move_done from to file output taken (move_room q s p whole)))
-
--- ---- the two directions
-
-module _ {f g from to : Form} (ef : f ≡ from) (eg : g ≡ to) where
-  pub direction_asks : (2 + from.most ≤ from.size) × (0 < to.size) → (2 + f.most ≤ f.size) × (0 < g.size)
-  direction_asks h = rw (ef, eg) h
-
-  pub direction : (file output : List ℕ) {r : WriteResult} → r ≡ move_call f g file output → r ≡ move_call from to file output
-  direction file output e = e ∙ rw (ef, eg)

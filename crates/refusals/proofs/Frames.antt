@@ -2,13 +2,13 @@
 use mathlib.Core.Path.{◌≡◌, refl, sym, ◌∙◌}
 use mathlib.Core.Bool.{Bool, true, false, ◌&&◌}
 use mathlib.Core.List.{List}
-use Prim.Native.Nat.{ℕ, zero, suc, ◌+◌, ◌≤◌, ◌<◌}
+use Prim.Native.Nat.{ℕ, zero, suc, ◌+◌, ◌-◌, ◌≤◌, ◌<◌}
 use native.Mathlib.Numerals.{add-one}
 use native.Mathlib.Omega.{arith}
 use lib.Bits.{bit_or, or_zero_l, or_add_and, and_le_r}
 use lib.Dec.{eqb}
-use lib.ListN.{length, get_or, drop, drop_of_length-le}
-use lib.Seq.{drop-cons}
+use lib.ListN.{length, get_or, take, drop, length-drop, drop_of_length-le}
+use lib.Seq.{drop-cons, take_all}
 use borrow.Author.Tests.{ne_eqb, le-leb, lt-leb}
 use Rattle.model.specs.Calls.{all_zero, well_formed}
 
@@ -28,18 +28,22 @@ both_zero (suc a) b =
     let g : eqb (bit_or (suc a) b) 0 ≡ false = ne_eqb (bit_or (suc a) b) 0 (λ (e : bit_or (suc a) b ≡ 0). omega (arith, or_add_and (suc a) b, and_le_r (suc a) b)) in
     rw (f, g)
 
--- one byte more
-pub zero_so_far : (frame : List ℕ) (i seen : ℕ) (rest : Bool) → i < length frame → (eqb seen 0 && all_zero (drop i frame)) ≡ rest
-    → (eqb (bit_or seen (get_or frame i 0)) 0 && all_zero (drop (i + 1) frame)) ≡ rest
-zero_so_far frame i seen rest h e =
-    rw (both_zero seen (get_or frame i 0), add-one) (sym (and_assoc (eqb seen 0) (eqb (get_or frame i 0) 0) (all_zero (drop (suc i) frame))) ∙ rw (drop-cons frame i 0 h) at e)
+-- one byte more of the bytes past the data
+pub zero_so_far : (tail : List ℕ) (i seen : ℕ) → i < length tail → (eqb seen 0 && all_zero (drop i tail)) ≡ all_zero tail
+    → (eqb (bit_or seen (get_or tail i 0)) 0 && all_zero (drop (i + 1) tail)) ≡ all_zero tail
+zero_so_far tail i seen h e =
+    rw (both_zero seen (get_or tail i 0), add-one) (sym (and_assoc (eqb seen 0) (eqb (get_or tail i 0) 0) (all_zero (drop (suc i) tail))) ∙ rw (drop-cons tail i 0 h) at e)
+
+-- from a place to the end
+pub tail_is : (i : ℕ) (frame : List ℕ) → take (length frame - i) (drop i frame) ≡ drop i frame
+tail_is i frame = take_all (length frame - i) (drop i frame) (rw length-drop (omega arith))
 
 -- all of them
-pub all_seen : (frame : List ℕ) (most n i seen : ℕ) → n ≡ get_or frame 0 0 → n ≤ most → length frame ≤ i
-    → (eqb seen 0 && all_zero (drop i frame)) ≡ all_zero (drop (2 + n) frame) → eqb seen 0 ≡ well_formed most frame
+pub all_seen : (frame tail : List ℕ) (most n i seen : ℕ) → n ≡ get_or frame 0 0 → n ≤ most → tail ≡ drop (2 + n) frame → length tail ≤ i
+    → (eqb seen 0 && all_zero (drop i tail)) ≡ all_zero tail → eqb seen 0 ≡ well_formed most frame
 unfolding well_formed
-all_seen frame most n i seen hn h l e =
-    rw (← hn, le-leb n most h) (sym (and_true (eqb seen 0)) ∙ rw (drop_of_length-le frame l) at e)
+all_seen frame tail most n i seen hn h t l e =
+    rw (← hn, le-leb n most h, ← t) (sym (and_true (eqb seen 0)) ∙ rw (drop_of_length-le tail l) at e)
 
 pub too_long_lem : (frame : List ℕ) (most n : ℕ) → n ≡ get_or frame 0 0 → most < n → false ≡ well_formed most frame
 unfolding well_formed

@@ -1,6 +1,7 @@
 -- The operands that the code reads, and the pointer that it leaves. Assumes nothing.
-use Rattle.std.proofs.Common.{◌≡◌, ℕ, zero, suc, ◌+◌, ◌*◌, ◌%◌, ◌<◌, ◌≤◌, Bool, true, false, cond, eqb, List, [], ◌∷◌, get_or, take, drop, refl, arith}
+use Rattle.std.proofs.Common.{◌≡◌, ℕ, zero, suc, ◌+◌, ◌*◌, ◌%◌, ◌<◌, ◌≤◌, Bool, true, false, eqb, List, [], ◌∷◌, take, drop, refl, arith}
 use Rattle.model.specs.Bytes.{number, read_ring}
+use Rattle.model.specs.Instruction.{size}
 use Rattle.model.specs.Machine.{stack, numbers, operands, lowered}
 use Rattle.model.proofs.Bytes.{read_mod}
 use Rattle.model.proofs.Stacks.{popped_is, top-ring}
@@ -33,18 +34,14 @@ pub none_below : (s : List ℕ) (p : ℕ) {n : ℕ} → n ≡ 0 → 0 ≡ below 
 unfolding number read_ring
 none_below s p e = rw e
 
-pub some_below : (s : List ℕ) (p n : ℕ) {low high r : ℕ} → (n ≡ 0 → ⊥) → n ≤ 2 → (low + 1) % 256 ≡ p → (high + n) % 256 ≡ p → low < 256 → high < 256
-    → r ≡ cond (eqb n 2) (get_or s high 0 * 256 + get_or s low 0) (get_or s high 0) → r ≡ below s p n
-unfolding number read_ring
-some_below s p zero z l e f g h k = absurd (z refl)
-some_below s p (suc zero) {low} {high} z l e f g h k =
-    let a : (p + 255) % 256 ≡ high = omega arith in
-    rw a (omega arith)
-some_below s p (suc (suc zero)) {low} {high} z l e f g h k =
-    let a : (p + 510) % 256 ≡ high = omega arith in
-    let b : (p + 510 + 1) % 256 ≡ low = omega arith in
-    rw (a, b) (omega arith)
-some_below s p (suc (suc (suc n))) z l e f g h k = absurd (omega arith)
+-- a number of one or two bytes that begins n below the pointer
+pub some_below : (s : List ℕ) (p n q : ℕ) {r : ℕ} → (n ≡ 0 → ⊥) → n ≤ 2 → q % 256 ≡ (p + 255 * n) % 256
+    → r ≡ number (read_ring 256 s q (size (eqb n 2))) → r ≡ below s p n
+unfolding size
+some_below s p zero q z l e h = absurd (z refl)
+some_below s p (suc zero) q z l e h = rw (← read_mod 256 s q (p + 255) 1 e) h
+some_below s p (suc (suc zero)) q z l e h = rw (← read_mod 256 s q (p + 510) 2 e) h
+some_below s p (suc (suc (suc n))) q z l e h = absurd (omega arith)
 
 pub operands_are : (s : List ℕ) (p a b c q o : ℕ) {x y z : ℕ} → (q + c) % 256 ≡ p → (o + b) % 256 ≡ q
     → x ≡ below s o a → y ≡ below s q b → z ≡ below s p c → (x ∷ y ∷ z ∷ []) ≡ operands (a ∷ b ∷ c ∷ []) (stack s p)

@@ -1,4 +1,5 @@
-// Stacks, whose pointers go round, and numbers of one or two bytes in memory and device page.
+// Stacks, whose pointers go round, and numbers of one or two bytes in memory and device page. A stack's bytes are lent, and its pointer is a
+// field of the machine record, which C lays out: so they are two arguments.
 #![tactic(auto)]
 
 ghost use Rattle.std.specs.Prelude.{◌≡◌, ◌+◌, ◌*◌, ◌/◌, ◌%◌, ◌<◌, ◌≤◌, [], ◌∷◌, length, if◌then◌else◌, slice_index, slice_set};
@@ -7,9 +8,24 @@ ghost use Rattle.model.specs.Machine.{memory_size, page_size, stack_size, stack,
 ghost use Rattle.model.specs.Instruction.{size};
 ghost use Rattle.model.specs.Step.{zero_page_ring};
 
-use std::num::{wrapping_add_u8, wrapping_add_u16, wrapping_sub_u8};
+// "Memory: a lent buffer of 65,536 bytes. Device page: 256. Working (data) stack and return stack: 256 each."
+pub const MEMORY_SIZE: usize = 65536;
+
+pub const PAGE_SIZE: usize = 256;
+
+pub const STACK_SIZE: usize = 256;
+
+// C-12: "The second address of a 16-bit LDZ or STZ is now modulo 256".
+pub const ZERO_PAGE: usize = 256;
+
+pub type Memory = [u8; MEMORY_SIZE];
+
+pub type Page = [u8; PAGE_SIZE];
+
+pub type Stack = [u8; STACK_SIZE];
 
 // "In 8-bit form n = 1 and in 16-bit form n = 2."
+#[tactic(auto, unfolding(model::specs::Instruction::size))]
 pub fn size_of(wide: bool) -> u8
     ensures { (result ≡ size wide) × (result ≤ 2) }
 {
@@ -18,16 +34,11 @@ pub fn size_of(wide: bool) -> u8
 
 // ---- numbers in a buffer
 
-pub fn one_byte(low: u8) -> u16
-    ensures { result ≡ low }
-{
-    low as u16
-}
-
 pub fn two_bytes(high: u8, low: u8) -> u16
     ensures { result ≡ high * 256 + low }
 {
-    (high as u16) * 256 + (low as u16)
+    // by hand: `u16::from_be_bytes` leaves an exchange of the two bytes, an instruction more in each 16-bit read
+    u16::from(high) * 256 + u16::from(low)
 }
 
 // The number of one byte at `first`, or of two bytes, the other at `second`.
@@ -38,7 +49,7 @@ pub fn read(buffer: &[u8], first: u16, second: u16, wide: bool) -> u16
     if wide {
         two_bytes(buffer[first as usize], buffer[second as usize])
     } else {
-        one_byte(buffer[first as usize])
+        u16::from(buffer[first as usize])
     }
 }
 
@@ -47,101 +58,111 @@ pub fn write(buffer: &mut [u8], first: u16, second: u16, wide: bool, value: u16)
     requires { (first < length buffer.old) × (second < length buffer.old) }
     ensures { buffer.new ≡ (if wide then slice_set (slice_set buffer.old first (value / 256 % 256)) second (value % 256) else slice_set buffer.old first (value % 256)) }
 {
+    let [high, low] = value.to_be_bytes();
     if wide {
-        buffer[first as usize] = (value / 256 % 256) as u8;
-        buffer[second as usize] = (value % 256) as u8;
+        buffer[first as usize] = high;
+        buffer[second as usize] = low;
     } else {
-        buffer[first as usize] = (value % 256) as u8;
+        buffer[first as usize] = low;
     }
 }
 
-// ---- memory and device page
-
-// "A 16-bit memory access uses its address and the next one modulo 65,536."
-pub fn load(memory: &[u8], address: u16, wide: bool) -> u16
-    requires { length memory.now ≡ memory_size }
-    ensures { result ≡ number (read_ring memory_size memory.now address (size wide)) }
+// The second address of a 16-bit access: the next one, modulo RING.
+pub fn second<const RING: usize>(first: u16) -> u16
+    requires { (0 < RING) × (RING ≤ 65536) }
+    ensures { result ≡ (first + 1) % RING }
 {
-    read(memory, address, wrapping_add_u16(address, 1), wide)
+    ((first as usize + 1) % RING) as u16
 }
 
-pub fn store(memory: &mut [u8], address: u16, wide: bool, value: u16)
-    requires { length memory.old ≡ memory_size }
-    ensures { memory.new ≡ write_ring memory_size memory.old address (word (size wide) value) }
+// The number at an address, of a buffer whose addresses go round at RING.
+#[tactic(auto, using(crate::proofs::Rings::read_is))]
+fn read_in<const RING: usize>(buffer: &[u8], address: u16, wide: bool) -> u16
+    requires { (0 < RING) × (RING ≤ 65536) × (RING ≤ length buffer.now) }
+    ensures { result ≡ number (read_ring RING buffer.now address (size wide)) }
 {
-    write(memory, address, wrapping_add_u16(address, 1), wide, value);
+    read(
+        buffer,
+        (address as usize % RING) as u16,
+        second::<RING>(address),
+        wide,
+    )
 }
 
-// C-12: "The second address of a 16-bit LDZ or STZ is now modulo 256".
-pub fn zero_page_second(address: u16) -> u16
-    ensures { result ≡ (address + 1) % zero_page_ring }
-{
-    wrapping_add_u16(address, 1) % 256
-}
-
-pub fn load_zero_page(memory: &[u8], address: u16, wide: bool) -> u16
-    requires { length memory.now ≡ memory_size }
-    ensures { result ≡ number (read_ring zero_page_ring memory.now address (size wide)) }
-{
-    read(memory, address % 256, zero_page_second(address), wide)
-}
-
-pub fn store_zero_page(memory: &mut [u8], address: u16, wide: bool, value: u16)
-    requires { length memory.old ≡ memory_size }
-    ensures { memory.new ≡ write_ring zero_page_ring memory.old address (word (size wide) value) }
+#[tactic(auto, using(crate::proofs::Rings::write_is))]
+fn write_in<const RING: usize>(buffer: &mut [u8], address: u16, wide: bool, value: u16)
+    requires { (0 < RING) × (RING ≤ 65536) × (RING ≤ length buffer.old) }
+    ensures { buffer.new ≡ write_ring RING buffer.old address (word (size wide) value) }
 {
     write(
-        memory,
-        address % 256,
-        zero_page_second(address),
+        buffer,
+        (address as usize % RING) as u16,
+        second::<RING>(address),
         wide,
         value,
     );
 }
 
-// "A 16-bit device access uses its port and the next one modulo 256."
-pub fn second_port(port: u16) -> u16
-    ensures { result ≡ (port + 1) % page_size }
+// ---- memory and device page: a name for each, as the papers speak of them, and one function behind
+
+// "A 16-bit memory access uses its address and the next one modulo 65,536."
+pub fn load(memory: &Memory, address: u16, wide: bool) -> u16
+    ensures { result ≡ number (read_ring memory_size memory.now address (size wide)) }
 {
-    wrapping_add_u8((port % 256) as u8, 1) as u16
+    read_in::<MEMORY_SIZE>(memory, address, wide)
 }
 
-pub fn input(devices: &[u8], port: u16, wide: bool) -> u16
-    requires { length devices.now ≡ page_size }
+pub fn store(memory: &mut Memory, address: u16, wide: bool, value: u16)
+    ensures { memory.new ≡ write_ring memory_size memory.old address (word (size wide) value) }
+{
+    write_in::<MEMORY_SIZE>(memory, address, wide, value);
+}
+
+pub fn load_zero_page(memory: &Memory, address: u16, wide: bool) -> u16
+    ensures { result ≡ number (read_ring zero_page_ring memory.now address (size wide)) }
+{
+    read_in::<ZERO_PAGE>(memory, address, wide)
+}
+
+pub fn store_zero_page(memory: &mut Memory, address: u16, wide: bool, value: u16)
+    ensures { memory.new ≡ write_ring zero_page_ring memory.old address (word (size wide) value) }
+{
+    write_in::<ZERO_PAGE>(memory, address, wide, value);
+}
+
+// "A 16-bit device access uses its port and the next one modulo 256."
+pub fn input(devices: &Page, port: u16, wide: bool) -> u16
     ensures { result ≡ number (read_ring page_size devices.now port (size wide)) }
 {
-    read(devices, port % 256, second_port(port), wide)
+    read_in::<PAGE_SIZE>(devices, port, wide)
 }
 
-pub fn output(devices: &mut [u8], port: u16, wide: bool, value: u16)
-    requires { length devices.old ≡ page_size }
+pub fn output(devices: &mut Page, port: u16, wide: bool, value: u16)
     ensures { devices.new ≡ write_ring page_size devices.old port (word (size wide) value) }
 {
-    write(devices, port % 256, second_port(port), wide, value);
+    write_in::<PAGE_SIZE>(devices, port, wide, value);
 }
 
 // ---- pops
 
 // The number of n bytes just below the pointer.
-pub fn below(s: &[u8], p: u8, n: u8) -> u16
-    requires { (length s.now ≡ stack_size) × (n ≤ 2) }
+pub fn below(s: &Stack, p: u8, n: u8) -> u16
+    requires { n ≤ 2 }
     ensures { result ≡ number (read_ring stack_size s.now (p + 255 * n) n) }
 {
     if n == 0 {
         return 0;
     }
-    let low = wrapping_sub_u8(p, 1);
-    let high = wrapping_sub_u8(p, n);
-    read(s, high as u16, low as u16, n == 2)
+    read_in::<STACK_SIZE>(s, u16::from(p.wrapping_sub(n)), n == 2)
 }
 
 // The operands of an instruction, of a, b and c bytes, the one on top last; 0 bytes are no operand, and its number is 0.
-pub fn operands(s: &[u8], p: u8, a: u8, b: u8, c: u8) -> [u16; 3]
-    requires { (length s.now ≡ stack_size) × (a ≤ 2) × (b ≤ 2) × (c ≤ 2) }
+pub fn operands(s: &Stack, p: u8, a: u8, b: u8, c: u8) -> [u16; 3]
+    requires { (a ≤ 2) × (b ≤ 2) × (c ≤ 2) }
     ensures { result ≡ operands (a ∷ b ∷ c ∷ []) (stack s.now p) }
 {
-    let q = wrapping_sub_u8(p, c);
-    let o = wrapping_sub_u8(q, b);
+    let q = p.wrapping_sub(c);
+    let o = q.wrapping_sub(b);
     [below(s, o, a), below(s, q, b), below(s, p, c)]
 }
 
@@ -149,23 +170,23 @@ pub fn operands(s: &[u8], p: u8, a: u8, b: u8, c: u8) -> [u16; 3]
 pub fn lower(p: u8, keep: bool, n: u8) -> u8
     ensures { result ≡ lowered keep n p }
 {
-    if keep { p } else { wrapping_sub_u8(p, n) }
+    if keep { p } else { p.wrapping_sub(n) }
 }
 
 // ---- pushes
 
 // "A push writes at the pointer, then adds one."
-pub fn push_byte(s: &mut [u8], p: u8, value: u16) -> u8
-    requires { length s.old ≡ stack_size }
+#[tactic(auto, unfolding(model::specs::Bytes::word, model::specs::Machine::pushed))]
+pub fn push_byte(s: &mut Stack, p: u8, value: u16) -> u8
     ensures { stack s.new result ≡ pushed (word 1 value) (stack s.old p) }
 {
     s[p as usize] = (value % 256) as u8;
-    wrapping_add_u8(p, 1)
+    p.wrapping_add(1)
 }
 
 // "A 16-bit push puts the high byte first."
-pub fn push(s: &mut [u8], p: u8, wide: bool, value: u16) -> u8
-    requires { length s.old ≡ stack_size }
+#[tactic(auto, using(crate::proofs::Rings::pushed_two), unfolding(model::specs::Instruction::size))]
+pub fn push(s: &mut Stack, p: u8, wide: bool, value: u16) -> u8
     ensures { stack s.new result ≡ pushed (word (size wide) value) (stack s.old p) }
 {
     if wide {

@@ -1,4 +1,4 @@
-// The table of operand and result bytes: the whole of it, and one entry.
+// The table of operand and result bytes, and its entries.
 #![tactic(auto)]
 
 use crate::rows::ROWS;
@@ -7,26 +7,50 @@ mod rows;
 
 ghost use Rattle.std.specs.Prelude.{◌≡◌, ◌<◌, get_or};
 ghost use Rattle.model.specs.Instruction.{row_of, RowTable};
+ghost use Rattle.table.specs.Column.{stack_number, column_number};
 
-// Columns of the table: what is taken from the working and from the return stack, and the length of the instruction.
-pub const WORKING: usize = 0;
-
-pub const RETURNING: usize = 1;
-
-pub const LENGTH: usize = 4;
-
-// The table, by value: a caller that reads many entries takes it once and lends it to `entry`.
-pub fn table() -> [u8; 1280]
-    ensures { RowTable result }
-{
-    ROWS
+// The two stacks.
+#[derive(Clone, Copy)]
+pub enum Stack {
+    Working,
+    Returning,
 }
 
-// A column of the row of an instruction byte: 0 taken from the working stack, 1 taken from the return stack, 2 pushed on the
-// working stack, 3 pushed on the return stack, 4 length of the instruction.
-pub fn entry(rows: &[u8; 1280], byte: u8, column: usize) -> u8
-    requires { RowTable rows.now × (column < 5) }
-    ensures { result ≡ get_or (row_of byte) column 0 }
+// A column of the table: the bytes taken from a stack, the bytes pushed on a stack, the length of the instruction.
+#[derive(Clone, Copy)]
+pub enum Column {
+    Taken(Stack),
+    Pushed(Stack),
+    Length,
+}
+
+// A caller that reads many entries makes the table once, and lends it.
+#[derive(Drop)]
+pub struct Table {
+    rows: [u8; 1280],
+    ghost right: { RowTable rows },
+}
+
+// The place of the column in a row: what is pushed on a stack stands two columns after what is taken from it.
+fn place(column: Column) -> usize
+    ensures { (result ≡ column_number column) × (result < 5) }
 {
-    rows[byte as usize * 5 + column]
+    match column {
+        Column::Taken(stack) => stack as usize,
+        Column::Pushed(stack) => stack as usize + 2,
+        Column::Length => 4,
+    }
+}
+
+impl Table {
+    pub fn new() -> Self {
+        Table { rows: ROWS }
+    }
+
+    // A column of the row of an instruction byte.
+    pub fn entry(&self, byte: u8, column: Column) -> u8
+        ensures { result ≡ get_or (row_of byte) (column_number column) 0 }
+    {
+        self.rows[byte as usize * 5 + place(column)]
+    }
 }

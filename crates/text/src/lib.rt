@@ -1,62 +1,64 @@
 // The line of a reply: "pass", "drop", "spent", or "refused" with a space and the number.
 #![tactic(auto)]
 
-ghost use Rattle.std.specs.Prelude.{◌≡◌, ◌++◌, ◌+◌, ◌≤◌, length, take};
+ghost use Rattle.std.specs.Prelude.{◌≡◌, ◌++◌, ◌+◌, ◌≤◌, length};
+ghost use Rattle.arrayvec.specs.ArrayVec.{array_vec_len};
 ghost use Rattle.model.specs.Machine.{State};
 ghost use Rattle.model.specs.Replies.{of_frame};
 ghost use Rattle.model.specs.declared.Machine.{Machine};
 ghost use Rattle.text.specs.Lines.{decimal, refused_line, line, line_most};
 
-use buffers::place;
-use model::FrameReply;
+use arrayvec::ArrayVec;
+use model::{FrameEnd, Refused};
 
-// Each function here puts text into `out` from `at` on, and answers the place after it; what stands before `at` stays.
+// Each function here puts text behind what is in `out`.
 
-pub fn put(out: &mut [u8], at: usize, text: &[u8]) -> usize
-    requires { at + length text.now ≤ length out.old }
-    ensures { (result ≡ at + length text.now) × (take result out.new ≡ take at out.old ++ text.now) }
+pub fn put<const N: usize>(out: &mut ArrayVec<u8, N>, text: &[u8])
+    requires { array_vec_len out.old + length text.now ≤ N }
+    ensures len { array_vec_len out.new ≡ array_vec_len out.old + length text.now }
+    ensures bytes { out.new.items ≡ out.old.items ++ text.now }
 {
-    place(&mut out[at..], text);
-    at + text.len()
+    let _fits = out.try_extend_from_slice(text);
 }
 
-pub fn put_decimal(out: &mut [u8], at: usize, number: u8) -> usize
-    requires { at + 3 ≤ length out.old }
-    ensures { (result ≤ at + 3) × (take result out.new ≡ take at out.old ++ decimal number) }
+#[tactic(auto, unfolding(crate::specs::Lines::decimal))]
+pub fn put_decimal<const N: usize>(out: &mut ArrayVec<u8, N>, number: u8)
+    requires { array_vec_len out.old + 3 ≤ N }
+    ensures len { array_vec_len out.new ≤ array_vec_len out.old + 3 }
+    ensures bytes { out.new.items ≡ out.old.items ++ decimal number }
 {
     let ones = b'0' + number % 10;
     if number < 10 {
-        return put(out, at, &[ones]);
+        return put(out, &[ones]);
     }
     let tens = b'0' + number / 10 % 10;
     if number < 100 {
-        return put(out, at, &[tens, ones]);
+        return put(out, &[tens, ones]);
     }
-    put(out, at, &[b'0' + number / 100, tens, ones])
+    put(out, &[b'0' + number / 100, tens, ones]);
 }
 
-pub fn put_refused(out: &mut [u8], at: usize, number: u8) -> usize
-    requires { at + line_most ≤ length out.old }
-    ensures { (result ≤ at + line_most) × (take result out.new ≡ take at out.old ++ refused_line number) }
+#[tactic(auto, unfolding(crate::specs::Lines::refused_line))]
+pub fn put_refused<const N: usize>(out: &mut ArrayVec<u8, N>, number: u8)
+    requires { array_vec_len out.old + line_most ≤ N }
+    ensures len { array_vec_len out.new ≤ array_vec_len out.old + line_most }
+    ensures bytes { out.new.items ≡ out.old.items ++ refused_line number }
 {
-    let after_word = put(out, at, b"refused ");
-    let after_number = put_decimal(out, after_word, number);
-    put(out, after_number, b"\n")
+    put(out, b"refused ");
+    put_decimal(out, number);
+    put(out, b"\n");
 }
 
-pub fn put_line(out: &mut [u8], at: usize, reply: FrameReply) -> usize
-    requires { at + line_most ≤ length out.old }
-    ensures { (result ≤ at + line_most) × ((state_of : Machine → State) → take result out.new ≡ take at out.old ++ line (of_frame state_of reply)) }
+#[tactic(auto, unfolding(crate::specs::Lines::line_of))]
+pub fn put_line<const N: usize>(out: &mut ArrayVec<u8, N>, reply: Result<FrameEnd, Refused>)
+    requires { array_vec_len out.old + line_most ≤ N }
+    ensures len { array_vec_len out.new ≤ array_vec_len out.old + line_most }
+    ensures bytes { (state_of : Machine → State) → out.new.items ≡ out.old.items ++ line (of_frame state_of reply) }
 {
     match reply {
-        FrameReply::Broke(_, _, verdict) => {
-            if verdict == 0 {
-                put(out, at, b"drop\n")
-            } else {
-                put(out, at, b"pass\n")
-            }
-        }
-        FrameReply::Spent(_, _) => put(out, at, b"spent\n"),
-        FrameReply::Refused(number, _) => put_refused(out, at, number),
+        Ok(FrameEnd::Broke(_, _, 0)) => put(out, b"drop\n"),
+        Ok(FrameEnd::Broke(_, _, _)) => put(out, b"pass\n"),
+        Ok(FrameEnd::Spent(_, _)) => put(out, b"spent\n"),
+        Err(refused) => put_refused(out, refused.refusal.into()),
     }
 }

@@ -2,9 +2,9 @@
 // contract gives memory, device page or the next address as empty or 0, the operation does not use it.
 #![tactic(auto)]
 
-ghost use Rattle.std.specs.Prelude.{◌≡◌, ◌+◌, ◌%◌, true, false, [], length};
+ghost use Rattle.std.specs.Prelude.{◌≡◌, ◌+◌, ◌%◌, true, false, []};
 ghost use Rattle.model.specs.Bytes.{word, number, read_ring};
-ghost use Rattle.model.specs.Machine.{memory_size, page_size, stack_size, stack, pushed};
+ghost use Rattle.model.specs.Machine.{memory_size, stack, pushed};
 ghost use Rattle.model.specs.Instruction.{size};
 ghost use Rattle.model.specs.Instruction.Op.{JCI, JMP, JCN, STH, LDZ, STZ, LDR, STR, LDA, STA, DEI, DEO};
 ghost use Rattle.model.specs.Step.{effect_on, other_after, written};
@@ -13,15 +13,14 @@ ghost use Rattle.operations.specs.After.{main_with};
 
 use alu::{address, relative};
 use stack::{
-    input, load, load_zero_page, lower, operands, output, push, size_of, store, store_zero_page,
+    Memory, Page, Stack, input, load, load_zero_page, lower, operands, output, push, size_of,
+    store, store_zero_page,
 };
-use std::num::wrapping_add_u16;
 
 // ---- memory and devices
 
 // LDZ addr8: value.
-pub fn ldz(memory: &[u8], s: &mut [u8], p: u8, wide: bool, keep: bool) -> u8
-    requires { (length memory.now ≡ memory_size) × (length s.old ≡ stack_size) }
+pub fn ldz(memory: &Memory, s: &mut Stack, p: u8, wide: bool, keep: bool) -> u8
     ensures { stack s.new result ≡ main_with memory.now [] 0 LDZ wide keep (stack s.old p) }
 {
     let x = operands(s, p, 1, 0, 0);
@@ -34,8 +33,7 @@ pub fn ldz(memory: &[u8], s: &mut [u8], p: u8, wide: bool, keep: bool) -> u8
 }
 
 // LDR rel8: value.
-pub fn ldr(memory: &[u8], s: &mut [u8], next: u16, p: u8, wide: bool, keep: bool) -> u8
-    requires { (length memory.now ≡ memory_size) × (length s.old ≡ stack_size) }
+pub fn ldr(memory: &Memory, s: &mut Stack, next: u16, p: u8, wide: bool, keep: bool) -> u8
     ensures { stack s.new result ≡ main_with memory.now [] next LDR wide keep (stack s.old p) }
 {
     let x = operands(s, p, 1, 0, 0);
@@ -48,8 +46,7 @@ pub fn ldr(memory: &[u8], s: &mut [u8], next: u16, p: u8, wide: bool, keep: bool
 }
 
 // LDA addr16: value.
-pub fn lda(memory: &[u8], s: &mut [u8], p: u8, wide: bool, keep: bool) -> u8
-    requires { (length memory.now ≡ memory_size) × (length s.old ≡ stack_size) }
+pub fn lda(memory: &Memory, s: &mut Stack, p: u8, wide: bool, keep: bool) -> u8
     ensures { stack s.new result ≡ main_with memory.now [] 0 LDA wide keep (stack s.old p) }
 {
     let x = operands(s, p, 2, 0, 0);
@@ -57,8 +54,7 @@ pub fn lda(memory: &[u8], s: &mut [u8], p: u8, wide: bool, keep: bool) -> u8
 }
 
 // DEI port8: value.
-pub fn dei(devices: &[u8], s: &mut [u8], p: u8, wide: bool, keep: bool) -> u8
-    requires { (length devices.now ≡ page_size) × (length s.old ≡ stack_size) }
+pub fn dei(devices: &Page, s: &mut Stack, p: u8, wide: bool, keep: bool) -> u8
     ensures { stack s.new result ≡ main_with [] devices.now 0 DEI wide keep (stack s.old p) }
 {
     let x = operands(s, p, 1, 0, 0);
@@ -66,8 +62,7 @@ pub fn dei(devices: &[u8], s: &mut [u8], p: u8, wide: bool, keep: bool) -> u8
 }
 
 // STZ value addr8.
-pub fn stz(memory: &mut [u8], s: &[u8], p: u8, wide: bool)
-    requires { (length memory.old ≡ memory_size) × (length s.now ≡ stack_size) }
+pub fn stz(memory: &mut Memory, s: &Stack, p: u8, wide: bool)
     ensures { memory.new ≡ written (effect_on [] [] 0 0 STZ wide (stack s.now p)) (size wide) memory.old }
 {
     let x = operands(s, p, size_of(wide), 1, 0);
@@ -75,8 +70,7 @@ pub fn stz(memory: &mut [u8], s: &[u8], p: u8, wide: bool)
 }
 
 // STR value rel8.
-pub fn str(memory: &mut [u8], s: &[u8], next: u16, p: u8, wide: bool)
-    requires { (length memory.old ≡ memory_size) × (length s.now ≡ stack_size) }
+pub fn str(memory: &mut Memory, s: &Stack, next: u16, p: u8, wide: bool)
     ensures { memory.new ≡ written (effect_on [] [] next 0 STR wide (stack s.now p)) (size wide) memory.old }
 {
     let x = operands(s, p, size_of(wide), 1, 0);
@@ -84,8 +78,7 @@ pub fn str(memory: &mut [u8], s: &[u8], next: u16, p: u8, wide: bool)
 }
 
 // STA value addr16.
-pub fn sta(memory: &mut [u8], s: &[u8], p: u8, wide: bool)
-    requires { (length memory.old ≡ memory_size) × (length s.now ≡ stack_size) }
+pub fn sta(memory: &mut Memory, s: &Stack, p: u8, wide: bool)
     ensures { memory.new ≡ written (effect_on [] [] 0 0 STA wide (stack s.now p)) (size wide) memory.old }
 {
     let x = operands(s, p, size_of(wide), 2, 0);
@@ -93,8 +86,7 @@ pub fn sta(memory: &mut [u8], s: &[u8], p: u8, wide: bool)
 }
 
 // DEO value port8: the port.
-pub fn port_of(s: &[u8], p: u8, wide: bool) -> u16
-    requires { length s.now ≡ stack_size }
+pub fn port_of(s: &Stack, p: u8, wide: bool) -> u16
     ensures { result ≡ (effect_on [] [] 0 0 DEO wide (stack s.now p)).place }
 {
     let x = operands(s, p, size_of(wide), 1, 0);
@@ -102,8 +94,7 @@ pub fn port_of(s: &[u8], p: u8, wide: bool) -> u16
 }
 
 // DEO value port8.
-pub fn deo(devices: &mut [u8], s: &[u8], p: u8, wide: bool)
-    requires { (length devices.old ≡ page_size) × (length s.now ≡ stack_size) }
+pub fn deo(devices: &mut Page, s: &Stack, p: u8, wide: bool)
     ensures { devices.new ≡ written (effect_on [] [] 0 0 DEO wide (stack s.now p)) (size wide) devices.old }
 {
     let x = operands(s, p, size_of(wide), 1, 0);
@@ -113,8 +104,7 @@ pub fn deo(devices: &mut [u8], s: &[u8], p: u8, wide: bool)
 // ---- jumps, and the other stack
 
 // JMP addr, and JSR addr: where it jumps to.
-pub fn jmp(s: &[u8], p: u8, next: u16, wide: bool) -> u16
-    requires { length s.now ≡ stack_size }
+pub fn jmp(s: &Stack, p: u8, next: u16, wide: bool) -> u16
     ensures { result ≡ (effect_on [] [] next 0 JMP wide (stack s.now p)).target }
 {
     let x = operands(s, p, size_of(wide), 0, 0);
@@ -122,8 +112,7 @@ pub fn jmp(s: &[u8], p: u8, next: u16, wide: bool) -> u16
 }
 
 // JCN cond8 addr: jump if cond is not 0, else go on.
-pub fn jcn(s: &[u8], p: u8, next: u16, wide: bool) -> u16
-    requires { length s.now ≡ stack_size }
+pub fn jcn(s: &Stack, p: u8, next: u16, wide: bool) -> u16
     ensures { result ≡ (effect_on [] [] next 0 JCN wide (stack s.now p)).target }
 {
     let x = operands(s, p, 1, size_of(wide), 0);
@@ -135,8 +124,7 @@ pub fn jcn(s: &[u8], p: u8, next: u16, wide: bool) -> u16
 }
 
 // STH a: a is pushed on the other stack.
-pub fn sth(main: &[u8], p: u8, other: &mut [u8], q: u8, wide: bool) -> u8
-    requires { (length main.now ≡ stack_size) × (length other.old ≡ stack_size) }
+pub fn sth(main: &Stack, p: u8, other: &mut Stack, q: u8, wide: bool) -> u8
     ensures { stack other.new result ≡ other_after STH wide (effect_on [] [] 0 0 STH wide (stack main.now p)) (stack other.old q) }
 {
     let x = operands(main, p, size_of(wide), 0, 0);
@@ -146,37 +134,33 @@ pub fn sth(main: &[u8], p: u8, other: &mut [u8], q: u8, wide: bool) -> u8
 // ---- the bytes after the instruction byte, which stands at `at`
 
 // The number that follows the instruction byte.
-pub fn inline(memory: &[u8], at: u16, wide: bool) -> u16
-    requires { length memory.now ≡ memory_size }
+pub fn inline(memory: &Memory, at: u16, wide: bool) -> u16
     ensures { result ≡ number (read_ring memory_size memory.now (at + 1) (size wide)) }
 {
-    load(memory, wrapping_add_u16(at, 1), wide)
+    load(memory, at.wrapping_add(1), wide)
 }
 
 // JMI, JSI, and JCI that jumps: "a 16-bit offset after the instruction byte", counted "from the address after it".
-pub fn offset(memory: &[u8], at: u16) -> u16
-    requires { length memory.now ≡ memory_size }
+pub fn offset(memory: &Memory, at: u16) -> u16
     ensures { result ≡ model.offset ((at + 3) % 65536) (number (read_ring memory_size memory.now (at + 1) (size true))) }
 {
-    wrapping_add_u16(wrapping_add_u16(at, 3), inline(memory, at, true))
+    at.wrapping_add(3).wrapping_add(inline(memory, at, true))
 }
 
 // JCI "pops a byte of the working stack and jumps if it is not 0".
-pub fn jci(memory: &[u8], s: &[u8], at: u16, p: u8) -> u16
-    requires { (length memory.now ≡ memory_size) × (length s.now ≡ stack_size) }
+pub fn jci(memory: &Memory, s: &Stack, at: u16, p: u8) -> u16
     ensures { result ≡ (effect_on [] [] ((at + 3) % 65536) (number (read_ring memory_size memory.now (at + 1) (size true))) JCI false (stack s.now p)).target }
 {
     let x = operands(s, p, 1, 0, 0);
     if x[0] == 0 {
-        wrapping_add_u16(at, 3)
+        at.wrapping_add(3)
     } else {
         offset(memory, at)
     }
 }
 
 // LIT "pushes the next one or two bytes on the main stack".
-pub fn lit(memory: &[u8], s: &mut [u8], at: u16, p: u8, wide: bool) -> u8
-    requires { (length memory.now ≡ memory_size) × (length s.old ≡ stack_size) }
+pub fn lit(memory: &Memory, s: &mut Stack, at: u16, p: u8, wide: bool) -> u8
     ensures { stack s.new result ≡ pushed (word (size wide) (number (read_ring memory_size memory.now (at + 1) (size wide)))) (stack s.old p) }
 {
     push(s, p, wide, inline(memory, at, wide))

@@ -3,20 +3,21 @@
 use mathlib.Core.Path.{◌≡◌, refl}
 use mathlib.Core.List.{List, [], ◌∷◌, map}
 use Prim.Native.Nat.{ℕ}
+use Rattle.std.specs.Prelude.{Option, Some, None, Result, Ok, Err}
 use Prim.Native.String.{String}
 use lib.ListN.{replicate}
 use Rattle.model.specs.Instruction.{wide, return_mode, keep_mode}
 use Rattle.model.specs.Admission.{byte_at}
 use Rattle.model.specs.declared.Place.{Place}
 use Rattle.model.specs.declared.Reason.{Reason}
-use Rattle.model.specs.declared.ExplainReply.{ExplainReply}
+use Rattle.model.specs.declared.Refusal.{Refusal}
 use Rattle.text.specs.Lines.{decimal, refused_line}
 use Rattle.words.specs.Words.{text, joined, digits, count, hex, name}
 use Rattle.why.specs.Explained.{takes, leaves, returns_with, in_routine, with_depths, other_way, is_cut, takes_below, goes_outside, ways_differ, returns_off_floor, returns_differ, sentence, place_of, because_line, explain_line}
 
 pub record Case : Type 0 where
   pub program : List ℕ
-  pub reply : ExplainReply
+  pub reply : Result (Option Reason) Refusal
   pub line : String
 
 -- at an address, the depths, and the routine
@@ -24,12 +25,12 @@ abbrev place : ℕ → ℕ → ℕ → ℕ → Place
 place at work ret routine = record { at = at; work = work; ret = ret; routine = routine }
 
 abbrev because : List ℕ → Reason → String → Case
-because program reason line = record { program = program; reply = ExplainReply.Because reason; line = line }
+because program reason line = record { program = program; reply = Ok (Some reason); line = line }
 
 pub lines : List Case
 lines =
-    record { program = []; reply = ExplainReply.Refused 5; line = "refused 5\n" }
-    ∷ record { program = 0x00 ∷ []; reply = ExplainReply.Admitted; line = "admitted\n" }
+    record { program = []; reply = Err Refusal.Program; line = "refused 5\n" }
+    ∷ record { program = 0x00 ∷ []; reply = Ok None; line = "admitted\n" }
     ∷ because (0x40 ∷ 0x00 ∷ []) (Reason.Cut (place 0x100 0 0 0x100) 3)
     "refused 11 at 0100: JMI is 3 bytes long, and the program ends after 2 of them\n"
     ∷ because (0xA0 ∷ 0x01 ∷ 0x00 ∷ 0x2C ∷ []) (Reason.Forbidden (place 0x103 2 0 0x100))

@@ -1,10 +1,11 @@
 -- The line of the program `explain`: why a program is refused, as ASCII codes with a line feed. Assumes nothing.
-use Rattle.std.specs.Prelude.{cond, List, [], ◌∷◌, ℕ, ◌+◌, ◌-◌, ◌%◌, eqb, length}
+use Rattle.std.specs.Prelude.{cond, List, [], ◌∷◌, ℕ, ◌+◌, ◌-◌, ◌%◌, eqb, length, Option, Some, None, Result, Ok, Err}
 use Rattle.model.specs.Machine.{memory_size, start}
 use Rattle.model.specs.Reasons.{byte_there}
+use Rattle.model.specs.Refusals.{refusal_number}
 use Rattle.model.specs.declared.Place.{Place}
 use Rattle.model.specs.declared.Reason.{Reason}
-use Rattle.model.specs.declared.ExplainReply.{ExplainReply}
+use Rattle.model.specs.declared.Refusal.{Refusal}
 use Rattle.text.specs.Lines.{refused_line, line_feed}
 use Rattle.words.specs.Words.{text, joined, digits, count, hex, name}
 
@@ -134,10 +135,10 @@ because_line program reason =
     ∷ name (byte_there program (place_of reason)) ∷ sentence program reason ∷ line_feed ∷ [])
 
 -- "refused 5", "admitted", or the reason
-unfoldable pub explain_line : List ℕ → ExplainReply → List ℕ
-explain_line program (ExplainReply.Refused n) = refused_line n
-explain_line program ExplainReply.Admitted = text "admitted\n"
-explain_line program (ExplainReply.Because reason) = because_line program reason
+unfoldable pub explain_line : List ℕ → Result (Option Reason) Refusal → List ℕ
+explain_line program (Err refusal) = refused_line (refusal_number refusal)
+explain_line program (Ok None) = text "admitted\n"
+explain_line program (Ok (Some reason)) = because_line program reason
 
 -- room for every line
 abbrev pub explain_most : ℕ

@@ -1,2 +1,2 @@
 pub mod Cases
-pub mod Putting
+pub mod Joined

@@ -14,9 +14,9 @@ use Rattle.model.specs.Admission.Way.{return as comes_back_lem}
 use Rattle.model.specs.Reasons.{Passes, Passable, came_from}
 use Rattle.model.proofs.Computing.{decoding}
 use Rattle.rules.proofs.Instructions.{byte_is}
-use Rattle.worklist.specs.declared.Next.{Next}
+use Rattle.std.specs.Prelude.{Result}
 use Rattle.worklist.specs.declared.Rule.{Rule}
-use Rattle.worklist.specs.Worklist.{work_at, ret_at, routine_at, Has, Led, Marks, Passing, Obeyed, Roots, Listed, Tested, Above, Extended, place_at, back_place, Lost, Told, Outcome, placed, Calls, Last, Back, AllBack, Left, Chain, returned_at, Waiting, Visit, Visited}
+use Rattle.worklist.specs.Worklist.{work_at, ret_at, routine_at, Has, Led, Marks, Passing, Obeyed, Roots, Listed, Tested, Above, Extended, place_at, back_place, Lost, Told, Outcome, placed, Calls, Last, Back, AllBack, Left, Chain, returned_at, Waiting, Visit, Visited, Failing}
 use Rattle.worklist.proofs.Worklist.{same_parts, grown_left, goes_on_lem, marked_parts, marked-inside, stands_at, root, root_low, root_place, floor_is, record_inside, queue_most, unextended, extended_again, outcome_by, outcome_after}
 use Rattle.worklist.proofs.Visits.{told, told_alone, rooting, passes, led-call, called_among, target_astray, return_obeyed, call_obeyed}
 use Rattle.worklist.proofs.Waits.{next-other, next_known, next-first, next_waits, next-back, Released, released_one, same_calls, more_passing, more_last, more-waiting, more_released}
@@ -340,7 +340,7 @@ module _ (program sheet queue : List ℕ) (tail head : ℕ) (routines before : L
 
         pub first-visited : get_or routines entry 0 < returned_at 0 → (sheet₁ queue₁ routines₁ : List ℕ)
             → routines₁ ≡ set routines entry (returned_at i)
-            → (n : Next) → Outcome program sheet queue tail sheet₁ queue₁ (AllBack program sheet₁ queue₁ (start + entry) (get_or routines entry 0) (work_at sheet i)) n
+            → (n : Result ℕ Failing) → Outcome program sheet queue tail sheet₁ queue₁ (AllBack program sheet₁ queue₁ (start + entry) (get_or routines entry 0) (work_at sheet i)) n
             → Outcome program sheet queue tail sheet₁ queue₁ (Visited program sheet₁ queue₁ head (placed queue head) routines₁ before) n
         first-visited z sheet₁ queue₁ routines₁ l =
             outcome_by program sheet queue tail sheet₁ queue₁
@@ -477,7 +477,7 @@ module _ (program sheet queue : List ℕ) (tail head : ℕ) (routines before : L
           )
 
           pub come_visited : (sheet₂ queue₂ : List ℕ)
-              → (n : Next) → Outcome program sheet₁ queue₁ tail₁ sheet₂ queue₂ (Back program sheet₂ (start + i) v) n
+              → (n : Result ℕ Failing) → Outcome program sheet₁ queue₁ tail₁ sheet₂ queue₂ (Back program sheet₂ (start + i) v) n
               → Outcome program sheet queue tail sheet₂ queue₂ (Visited program sheet₂ queue₂ head (placed queue head) routines before) n
           come_visited sheet₂ queue₂ n b =
               outcome_after program sheet queue tail sheet₁ queue₁ tail₁ sheet₂ queue₂ _ o.0 n

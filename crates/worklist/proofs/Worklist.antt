@@ -11,16 +11,15 @@ use lib.Seq.{get_or-set_same, get_or-set_other}
 use lib.Dec.{ltb}
 use borrow.Author.Tests.{ltb-false, le-ltb}
 use Rattle.model.specs.Machine.{start}
-use Rattle.model.specs.Admission.{Mark, admit_most, Within, GoesOn, Called, ret_of, floor, mark_at, sheet_record, record_of, sheet_of, mark_in}
+use Rattle.model.specs.Admission.{Mark, admit_most, GoesOn, Called, ret_of, floor, mark_at, sheet_record, record_of, sheet_of, mark_in}
 use Rattle.model.specs.Admission.Mark.{unmarked, marked}
 use Rattle.model.specs.Reasons.{Stands}
 use Rattle.model.proofs.Reached.{count_most}
 use Rattle.model.proofs.Rules.{not_both, marked_within}
 use Rattle.model.proofs.Sheet.{mark_in_lem, length-sheet}
-use Rattle.worklist.specs.declared.Next.{Next}
-use Rattle.worklist.specs.declared.Reached.{Reached}
+use Rattle.std.specs.Prelude.{Result, Ok, Err}
 use Rattle.worklist.specs.declared.Rule.{Rule}
-use Rattle.worklist.specs.Worklist.{work_at, ret_at, routine_at, Has, Agrees, Led, Marks, Rooted, Roots, Listed, Extended, Marking, place_at, Told, Refutes, Outcome, Left}
+use Rattle.worklist.specs.Worklist.{work_at, ret_at, routine_at, Has, Agrees, Led, Marks, Rooted, Roots, Listed, Extended, place_at, Told, Failing, ToldIn, Outcome, Left}
 use Rattle.worklist.proofs.Sheets.{byte_of_record, mark_unmarked, mark_marked, with_mark, sheet-set, count_set, count_room}
 
 -- a mark has one pair of depths and one routine
@@ -162,6 +161,11 @@ module _ (program sheet queue : List ℕ) (tail : ℕ) (list : Listed program sh
   pub record_inside : (i : ℕ) → Marks sheet (start + i) → sheet_record * i + 7 < length sheet
   record_inside i m = omega (arith, marked-inside i m, sheet-length)
 
+  -- what `depths_after` asks
+  pub place_inside : (i : ℕ) → Marks sheet (start + i)
+      → (i < length program) × (length program ≤ admit_most) × (sheet_record * i + 7 < length sheet)
+  place_inside i m = (marked-inside i m, list.most, record_inside i m)
+
   -- the routine of a marked place, and its floor
   module _ (i : ℕ) (m : Marks sheet (start + i)) where
     pub root : Rooted program sheet (routine_at sheet i) (ret_at sheet i)
@@ -196,40 +200,37 @@ module _ (program sheet queue : List ℕ) (tail : ℕ) (list : Listed program sh
   unextended = record { list = list; grown = λ at w r q e. e; kept = λ k h. refl; longer = omega arith }
 
   module _ (at w r q : ℕ) (led : Led program at w r q) where
-    module _ (above : start ≤ at) (inside : at - start < length program) where
-      here : start + (at - start) ≡ at
-      here = omega arith
-
+    module _ (i : ℕ) (here : start + i ≡ at) (inside : i < length program) where
       -- it has another mark
-      pub other_parts : (get_or sheet (sheet_record * (at - start)) 0 ≡ 0 → ⊥) → (b : Bool) → b ≡ false → Agrees sheet (at - start) w r q b
+      pub other_parts : (get_or sheet (sheet_record * i) 0 ≡ 0 → ⊥) → (b : Bool) → b ≡ false → Agrees sheet i w r q b
           → Marks sheet at × (Has sheet (at - start) w r q → ⊥)
       other_parts g true b h = absurd (true≢false b)
-      other_parts g false b h = ((_, _, _, rw here at (parts_are (at - start) inside g)), h)
+      other_parts g false b h = let e : at - start ≡ i = omega arith in ((_, _, _, rw here at (parts_are i inside g)), rw e h)
 
       -- it has this one
-      pub these_parts : (get_or sheet (sheet_record * (at - start)) 0 ≡ 0 → ⊥) → (b : Bool) → b ≡ true → Agrees sheet (at - start) w r q b
+      pub these_parts : (get_or sheet (sheet_record * i) 0 ≡ 0 → ⊥) → (b : Bool) → b ≡ true → Agrees sheet i w r q b
           → mark_in sheet at ≡ marked w r q
-      these_parts g true b h = rw (h.0, h.1, h.2, here) at (parts_are (at - start) inside g)
+      these_parts g true b h = rw (h.0, h.1, h.2, here) at (parts_are i inside g)
       these_parts g false b h = absurd (true≢false (sym b))
 
       -- it has no mark: it gets one, and a place in the queue
-      module _ (sheet_after queue_after : List ℕ) (none : get_or sheet (sheet_record * (at - start)) 0 ≡ 0) (roots : Roots program sheet at r q)
-          (marks : sheet_after ≡ with_mark sheet (at - start) w r q) (queues : queue_after ≡ set queue tail (at - start)) where
+      module _ (sheet_after queue_after : List ℕ) (none : get_or sheet (sheet_record * i) 0 ≡ 0) (roots : Roots program sheet at r q)
+          (marks : sheet_after ≡ with_mark sheet i w r q) (queues : queue_after ≡ set queue tail i) where
         space : tail < length queue
-        space = omega (arith, room (at - start) inside none, list.spaces)
+        space = omega (arith, room i inside none, list.spaces)
 
         after : List Mark
-        after = set list.marks (at - start) (marked w r q)
+        after = set list.marks i (marked w r q)
 
-        within : at - start < length list.marks
+        within : i < length list.marks
         within = omega (arith, list.size)
 
-        unset : get_or list.marks (at - start) unmarked ≡ unmarked
-        unset = free (at - start) inside none
+        unset : get_or list.marks i unmarked ≡ unmarked
+        unset = free i inside none
 
         wrote : sheet_after ≡ sheet_of after program
         unfolding after
-        wrote = marks ∙ rw list.written (sheet-set list.marks program (at - start) w r q list.size inside)
+        wrote = marks ∙ rw list.written (sheet-set list.marks program i w r q list.size inside)
 
         sized : length after ≡ length program
         unfolding after
@@ -240,26 +241,26 @@ module _ (program sheet queue : List ℕ) (tail : ℕ) (list : Listed program sh
 
         pub reached_mark : mark_in sheet_after at ≡ marked w r q
         unfolding after
-        reached_mark = in_after at ∙ rw here at (added_mark list.marks (at - start) w r q within)
+        reached_mark = in_after at ∙ rw here at (added_mark list.marks i w r q within)
 
         stays : (b v s p : ℕ) → mark_in sheet b ≡ marked v s p → mark_in sheet_after b ≡ marked v s p
         unfolding after
         stays b v s p e =
-            in_after b ∙ kept_mark list.marks (at - start) w r q within unset b v s p (sym (marks_are b) ∙ e)
+            in_after b ∙ kept_mark list.marks i w r q within unset b v s p (sym (marks_are b) ∙ e)
 
         cases : (b v s p : ℕ) → mark_in sheet_after b ≡ marked v s p
             → (mark_in sheet b ≡ marked v s p) ⊎ ((b ≡ at) × (w ≡ v) × (r ≡ s) × (q ≡ p))
         unfolding after
-        cases b v s p e = elim (mark_cases list.marks (at - start) w r q within b v s p (sym (in_after b) ∙ e)) [
+        cases b v s p e = elim (mark_cases list.marks i w r q within b v s p (sym (in_after b) ∙ e)) [
           | inl f ↦ inl (marks_are b ∙ f)
           | inr f ↦ inr (f.0 ∙ here, f.1, f.2, f.3)
         ]
 
         old-place : (k : ℕ) → k < tail → get_or queue_after k 0 ≡ get_or queue k 0
-        old-place k h = rw queues (get_or-set_other queue tail k (at - start) 0 (λ e. omega arith))
+        old-place k h = rw queues (get_or-set_other queue tail k i 0 (λ e. omega arith))
 
         new-place : start + get_or queue_after tail 0 ≡ at
-        new-place = rw (queues, get_or-set_same queue tail (at - start) 0 space) here
+        new-place = rw (queues, get_or-set_same queue tail i 0 space) here
 
         -- the routine of the new mark
         rooted_now : Roots program sheet at r q → Rooted program sheet_after q r
@@ -283,7 +284,7 @@ module _ (program sheet queue : List ℕ) (tail : ℕ) (list : Listed program sh
                 marks = after;
                 size = sized;
                 written = wrote;
-                counted = omega (arith, list.counted, count_set list.marks (at - start) w r q within unset);
+                counted = omega (arith, list.counted, count_set list.marks i w r q within unset);
                 first = stays start 0 0 start list.first;
                 ways = λ b v s p e. elim (cases b v s p e) [
                   | inl f ↦ list.ways b v s p f
@@ -325,43 +326,21 @@ extended_again a b =
       longer = omega (arith, a.longer, b.longer);
     }
 
--- the two outcomes, taken apart
-pub went_on : (program sheet queue : List ℕ) (tail : ℕ) (sheet₁ queue₁ : List ℕ) (P : Type 0) (n : Next) (k : ℕ) → n ≡ Next.Queued k
-    → Outcome program sheet queue tail sheet₁ queue₁ P n → Extended program sheet queue tail sheet₁ queue₁ k × P
-went_on program sheet queue tail sheet₁ queue₁ P n k e o = rw e at o
-
--- a rule that fails, by its number
-pub tells : (program sheet queue : List ℕ) (tail : ℕ) (sheet₁ queue₁ : List ℕ) (P : Type 0) (rule : Rule) (i j : ℕ) (n : Next)
-    → Refutes rule i j n → Told program sheet₁ rule i j → Outcome program sheet queue tail sheet₁ queue₁ P n
-tells program sheet queue tail sheet₁ queue₁ P rule i j (Next.Refuted n) e t =
-    rw (e.0, e.1, e.2) t
-tells program sheet queue tail sheet₁ queue₁ P rule i j (Next.Queued k) e t = absurd e
-
--- it fails from wherever the worklist came
-pub refuted : (program sheet queue : List ℕ) (tail : ℕ) (sheet₀ queue₀ : List ℕ) (tail₀ : ℕ) (sheet₁ queue₁ : List ℕ) (P Q : Type 0) (n : Next)
-    → {k : ℕ} → n ≡ Next.Refuted k → Outcome program sheet₀ queue₀ tail₀ sheet₁ queue₁ P n → Outcome program sheet queue tail sheet₁ queue₁ Q n
-refuted program sheet queue tail sheet₀ queue₀ tail₀ sheet₁ queue₁ P Q n e o = rw e (rw e at o)
-
--- the two answers of `reach`
-pub is_marked_lem : (program sheet queue : List ℕ) (tail : ℕ) (sheet₁ queue₁ : List ℕ) (at w r q : ℕ) (n : Reached) (k : ℕ) → n ≡ Reached.Queued k
-    → Marking program sheet queue tail sheet₁ queue₁ at w r q n → Extended program sheet queue tail sheet₁ queue₁ k × (mark_in sheet₁ at ≡ marked w r q)
-is_marked_lem program sheet queue tail sheet₁ queue₁ at w r q n k e o = rw e at o
-
-pub is_astray : (program sheet queue : List ℕ) (tail : ℕ) (sheet₁ queue₁ : List ℕ) (at w r q : ℕ) (n : Reached) → n ≡ Reached.Astray
-    → Marking program sheet queue tail sheet₁ queue₁ at w r q n
-    → (sheet₁ ≡ sheet) × (Within program at → Marks sheet at × (Has sheet (at - start) w r q → ⊥))
-is_astray program sheet queue tail sheet₁ queue₁ at w r q n e o = rw e at o
+-- a rule that fails
+pub tells : (program sheet : List ℕ) (rule : Rule) (i j : ℕ) (f : Failing) → f ≡ record { rule = rule; at = i; other = j }
+    → Told program sheet rule i j → ToldIn program sheet f
+tells program sheet rule i j f e t = rw e t
 
 -- what an outcome says, from what another one says
 pub outcome_by : (program sheet queue : List ℕ) (tail : ℕ) (sheet₁ queue₁ : List ℕ) (P Q : Type 0)
-    → ((k : ℕ) → Extended program sheet queue tail sheet₁ queue₁ k → P → Q) → (n : Next)
+    → ((k : ℕ) → Extended program sheet queue tail sheet₁ queue₁ k → P → Q) → (n : Result ℕ Failing)
     → Outcome program sheet queue tail sheet₁ queue₁ P n → Outcome program sheet queue tail sheet₁ queue₁ Q n
-outcome_by program sheet queue tail sheet₁ queue₁ P Q f (Next.Refuted n) o = o
-outcome_by program sheet queue tail sheet₁ queue₁ P Q f (Next.Queued k) o = (o.0, f k o.0 o.1)
+outcome_by program sheet queue tail sheet₁ queue₁ P Q f (Err n) o = o
+outcome_by program sheet queue tail sheet₁ queue₁ P Q f (Ok k) o = (o.0, f k o.0 o.1)
 
 -- after one extension
 pub outcome_after : (program sheet queue : List ℕ) (tail : ℕ) (sheet₁ queue₁ : List ℕ) (tail₁ : ℕ) (sheet₂ queue₂ : List ℕ) (P : Type 0)
-    → Extended program sheet queue tail sheet₁ queue₁ tail₁ → (n : Next)
+    → Extended program sheet queue tail sheet₁ queue₁ tail₁ → (n : Result ℕ Failing)
     → Outcome program sheet₁ queue₁ tail₁ sheet₂ queue₂ P n → Outcome program sheet queue tail sheet₂ queue₂ P n
-outcome_after program sheet queue tail sheet₁ queue₁ tail₁ sheet₂ queue₂ P a (Next.Refuted n) o = o
-outcome_after program sheet queue tail sheet₁ queue₁ tail₁ sheet₂ queue₂ P a (Next.Queued k) o = (extended_again a o.0, o.1)
+outcome_after program sheet queue tail sheet₁ queue₁ tail₁ sheet₂ queue₂ P a (Err n) o = o
+outcome_after program sheet queue tail sheet₁ queue₁ tail₁ sheet₂ queue₂ P a (Ok k) o = (extended_again a o.0, o.1)

@@ -1,15 +1,13 @@
 -- What the worklist of an admission keeps, while it visits the addresses that are reached from 0100. Inside the crates of admission only:
 -- the contract of `admit` does not cite it.
 -- Assumes nothing.
-use Rattle.std.specs.Prelude.{◌≡◌, ◌⊎◌, Bool, true, false, cond, not, List, [], ◌∷◌, ℕ, suc, ◌+◌, ◌-◌, ◌*◌, ◌/◌, ◌%◌, ◌≤◌, ◌<◌, T, eqb, length, get_or}
+use Rattle.std.specs.Prelude.{◌≡◌, ◌⊎◌, Bool, true, false, cond, not, List, [], ◌∷◌, ℕ, suc, ◌+◌, ◌-◌, ◌*◌, ◌/◌, ◌%◌, ◌≤◌, ◌<◌, T, eqb, length, get_or, Option, Some, None, Result, Ok, Err}
 use Rattle.model.specs.Machine.{start}
 use Rattle.model.specs.Instruction.{working, returning, taken_from, length_of}
 use Rattle.model.specs.Admission.{Mark, count_marked, admit_most, byte_at, Within, allowed, depth_after, after_of, target_of, Way, Called, floor, Rules, sheet_record, sheet_of, mark_in}
 use Rattle.model.specs.Admission.Mark.{marked}
 use Rattle.model.specs.Reasons.{Passes, Passable, Stands, GoesTo, Alike}
 use Rattle.model.specs.declared.Place.{Place}
-use Rattle.worklist.specs.declared.Next.{Next}
-use Rattle.worklist.specs.declared.Reached.{Reached}
 use Rattle.worklist.specs.declared.Rule.{Rule}
 
 -- the depths and the routine in the record of place i
@@ -102,10 +100,10 @@ pub record Extended (program sheet queue : List ℕ) (tail : ℕ) (sheet_after q
   pub longer : tail ≤ tail_after
 
 -- The address is outside the program or has another mark, and nothing was written; or it has this one.
-abbrev pub Marking : (program sheet queue : List ℕ) → ℕ → (sheet_after queue_after : List ℕ) → (at w r q : ℕ) → Reached → Type 0
-Marking program sheet queue tail sheet_after queue_after at w r q Reached.Astray =
+abbrev pub Marking : (program sheet queue : List ℕ) → ℕ → (sheet_after queue_after : List ℕ) → (at w r q : ℕ) → Option ℕ → Type 0
+Marking program sheet queue tail sheet_after queue_after at w r q None =
     (sheet_after ≡ sheet) × (Within program at → Marks sheet at × (Has sheet (at - start) w r q → ⊥))
-Marking program sheet queue tail sheet_after queue_after at w r q (Reached.Queued t) =
+Marking program sheet queue tail sheet_after queue_after at w r q (Some t) =
     Extended program sheet queue tail sheet_after queue_after t × (mark_in sheet_after at ≡ marked w r q)
 
 -- ---- a rule fails
@@ -193,6 +191,15 @@ pub record Told (program sheet : List ℕ) (rule : Rule) (i j : ℕ) : Type 0 wh
   pub stands : Stands program (place_at sheet i)
   pub fails : Fails program sheet rule i j
 
+-- the rule, the place where it fails, and the place of a return of which it speaks too
+pub record Failing : Type 0 where
+  pub rule : Rule
+  pub at : ℕ
+  pub other : ℕ
+
+abbrev pub ToldIn : (program sheet : List ℕ) → Failing → Type 0
+ToldIn program sheet f = Told program sheet f.rule f.at f.other
+
 -- ---- the same as a number
 
 -- the rules by their numbers, but for the last one
@@ -214,18 +221,13 @@ place_in n = n / 16 % admit_most
 unfoldable pub other_in : ℕ → ℕ
 other_in n = n / 16 / admit_most
 
-abbrev pub ToldIn : (program sheet : List ℕ) → ℕ → Type 0
-ToldIn program sheet n = Told program sheet (rule_in n) (place_in n) (other_in n)
-
--- the number of a rule and two places
-abbrev pub Refutes : Rule → ℕ → ℕ → Next → Type 0
-Refutes rule i j (Next.Refuted n) = (rule_in n ≡ rule) × (place_in n ≡ i) × (other_in n ≡ j)
-Refutes rule i j (Next.Queued t) = ⊥
+abbrev pub failing_of : ℕ → Failing
+failing_of n = record { rule = rule_in n; at = place_in n; other = other_in n }
 
 -- A rule fails; or the worklist goes on, and P holds.
-abbrev pub Outcome : (program sheet queue : List ℕ) → ℕ → (sheet_after queue_after : List ℕ) → Type 0 → Next → Type 0
-Outcome program sheet queue tail sheet_after queue_after P (Next.Refuted n) = ToldIn program sheet_after n
-Outcome program sheet queue tail sheet_after queue_after P (Next.Queued t) = Extended program sheet queue tail sheet_after queue_after t × P
+abbrev pub Outcome : (program sheet queue : List ℕ) → ℕ → (sheet_after queue_after : List ℕ) → Type 0 → Result ℕ Failing → Type 0
+Outcome program sheet queue tail sheet_after queue_after P (Err fault) = ToldIn program sheet_after fault
+Outcome program sheet queue tail sheet_after queue_after P (Ok t) = Extended program sheet queue tail sheet_after queue_after t × P
 
 -- ---- calls and returns, among the first `head` places of the queue, which were visited
 

@@ -6,17 +6,16 @@ ghost use Rattle.std.specs.Prelude.{◌≡◌, ℕ, ◌+◌, ◌*◌, ◌-◌, �
 ghost use Rattle.model.specs.Machine.{start};
 ghost use Rattle.model.specs.Instruction.{length_of};
 ghost use Rattle.model.specs.Admission.{admit_most, byte_at, target_of, sheet_record};
-ghost use Rattle.worklist.specs.Worklist.{routine_at, Agrees, Led, Marks, Passing, Obeyed, Roots, Listed, Tested, Above, Marking, rule_of, rule_in, Refutes, Outcome, placed, Back, AllBack, Left, Chain, Visit, Visited};
+ghost use Rattle.worklist.specs.Worklist.{routine_at, Agrees, Led, Marks, Passing, Obeyed, Roots, Listed, Tested, Above, Marking, Outcome, placed, Back, AllBack, Left, Chain, Visit, Visited};
 
+use model::START;
 use rules::jump_target;
 use stack::two_bytes;
+use std::marker::Model;
 
 // "The sheet record becomes 8 bytes: the old four", which are mark, working depth, return depth, the program byte, "the routine (two
 // bytes), two zeros".
 pub const SHEET_RECORD: usize = 8;
-
-// "The first record stands for address 0100."
-pub const START: u16 = 0x0100;
 
 const BRK: u8 = 0x00;
 
@@ -32,6 +31,8 @@ pub const RETURN: u8 = 0x6C;
 // What `routines` has for the routine at a place of the program: the number, from 1, of the place in the queue with the routine's last
 // call, or 0, if there is none; once a return of it was visited, RETURNED and the place of the first one.
 const RETURNED: u16 = 4097;
+
+// ---- a rule that fails
 
 // The rules, by what is found where one fails: the instruction is not allowed; it is cut off; a stack holds too few bytes for it, or too
 // many after it; it takes return bytes below the floor; the address after it, its target or, for a call, the address where its routine
@@ -52,88 +53,71 @@ pub enum Rule {
     ReturnsDiffer,
 }
 
-// How the worklist goes on: a rule fails, so that there is no assignment, and the number has the rule and where it fails (`refuted`); or
-// with this many addresses in the queue.
-#[derive(Clone, Copy)]
-pub enum Next {
-    Refuted(usize),
-    Queued(usize),
-}
-
-// An address that is reached is outside the program, or has another mark; or the queue has this many addresses now.
-#[derive(Clone, Copy)]
-enum Reached {
-    Astray,
-    Queued(usize),
-}
-
-// ---- a rule that fails, as a number
-
 // There is room for 16 rules, and for two places of a program.
-pub const RULES: usize = 16;
+const RULES: usize = 16;
 
-pub const PLACES: usize = 4096;
+const PLACES: usize = 4096;
 
-fn number_of(rule: Rule) -> usize
-    ensures { (result < 16) × (rule_of result ≡ rule) }
-{
-    match rule {
-        Rule::Forbidden => 0,
-        Rule::Cut => 1,
-        Rule::FewWorking => 2,
-        Rule::ManyWorking => 3,
-        Rule::FewReturn => 4,
-        Rule::ManyReturn => 5,
-        Rule::BelowFloor => 6,
-        Rule::After => 7,
-        Rule::Target => 8,
-        Rule::Back => 9,
-        Rule::ReturnOffFloor => 10,
-        Rule::ReturnsDiffer => 11,
+// A rule that fails, the place of the program where it fails, and the place of a return of which it speaks too, or 0. They are one number,
+// as the length of the queue is, so that the loop of the visits has one register for either.
+#[derive(Drop)]
+pub struct Fault(usize);
+
+impl Model for Fault {
+    ghost use Rattle.worklist.specs.Worklist.{Failing, failing_of};
+
+    ghost Value = { Failing };
+
+    ghost view = { λ fault. failing_of fault.0 };
+}
+
+impl Fault {
+    pub fn new(rule: Rule, at: usize, other: usize) -> Self
+        requires { (at < admit_most) × (other < admit_most) }
+        ensures { result ≡ record { rule = rule; at = at; other = other } }
+    {
+        let places = at + PLACES * other;
+        Fault(rule as usize + RULES * places)
     }
-}
 
-// The rule fails at place i of the program; j is the place of a return of which it speaks too, or 0. They are one number, as the length of
-// the queue is, so that the loop of the visits has one register for either.
-pub fn refuted(rule: Rule, i: usize, j: usize) -> Next
-    requires { (i < admit_most) × (j < admit_most) }
-    ensures { Refutes rule i j result }
-{
-    let places = i + PLACES * j;
-    Next::Refuted(number_of(rule) + RULES * places)
-}
-
-// The rule of such a number.
-pub fn rule_in(fault: usize) -> Rule
-    ensures { result ≡ rule_in fault }
-{
-    let number = fault % RULES;
-    match number {
-        0 => Rule::Forbidden,
-        1 => Rule::Cut,
-        2 => Rule::FewWorking,
-        3 => Rule::ManyWorking,
-        4 => Rule::FewReturn,
-        5 => Rule::ManyReturn,
-        6 => Rule::BelowFloor,
-        7 => Rule::After,
-        8 => Rule::Target,
-        9 => Rule::Back,
-        10 => Rule::ReturnOffFloor,
-        _ => Rule::ReturnsDiffer,
+    pub fn rule(&self) -> Rule
+        ensures { result ≡ self.now.rule }
+    {
+        let number = self.0 % RULES;
+        match number {
+            0 => Rule::Forbidden,
+            1 => Rule::Cut,
+            2 => Rule::FewWorking,
+            3 => Rule::ManyWorking,
+            4 => Rule::FewReturn,
+            5 => Rule::ManyReturn,
+            6 => Rule::BelowFloor,
+            7 => Rule::After,
+            8 => Rule::Target,
+            9 => Rule::Back,
+            10 => Rule::ReturnOffFloor,
+            _ => Rule::ReturnsDiffer,
+        }
     }
-}
 
-// A function of its own, since a cast of an element of an array would ask for a proof that it fits.
-pub fn wide(x: u16) -> usize
-    ensures { result ≡ x }
-{
-    x as usize
+    pub fn at(&self) -> usize
+        ensures { result ≡ self.now.at }
+    {
+        self.0 / RULES % PLACES
+    }
+
+    pub fn other(&self) -> usize
+        ensures { result ≡ self.now.other }
+    {
+        self.0 / RULES / PLACES
+    }
 }
 
 // ---- the sheet
 
 // The record of place i becomes marked with these depths and this routine.
+// The routine's bytes are made by hand, here, in `routine_of` and in `agrees`: with `to_be_bytes` and `from_be_bytes` an admission takes up
+// to 11 % more instructions.
 pub fn mark(sheet: &mut [u8], i: usize, work: u8, ret: u8, routine: u16)
     requires { sheet_record * i + 5 < length sheet.old }
     ensures { sheet.new ≡ set (set (set (set (set sheet.old (sheet_record * i) 1) (sheet_record * i + 1) work) (sheet_record * i + 2) ret)
@@ -161,7 +145,7 @@ pub fn floor_of(sheet: &[u8], routine: u16) -> u8
     requires { (start ≤ routine) × (sheet_record * (routine - start) + 2 < length sheet.now) }
     ensures { result ≡ get_or sheet.now (sheet_record * (routine - start) + 2) 0 }
 {
-    sheet[SHEET_RECORD * wide(routine - START) + 2]
+    sheet[SHEET_RECORD * usize::from(routine - START) + 2]
 }
 
 // The record of place i has these depths and this routine.
@@ -170,19 +154,10 @@ fn agrees(sheet: &[u8], i: usize, work: u8, ret: u8, routine: u16) -> bool
     ensures { Agrees sheet.now i work ret routine result }
 {
     let place = SHEET_RECORD * i;
-    if sheet[place + 1] != work {
-        return false;
-    }
-    if sheet[place + 2] != ret {
-        return false;
-    }
-    if sheet[place + 4] != (routine / 256) as u8 {
-        return false;
-    }
-    if sheet[place + 5] != (routine % 256) as u8 {
-        return false;
-    }
-    true
+    sheet[place + 1] == work
+        && sheet[place + 2] == ret
+        && sheet[place + 4] == (routine / 256) as u8
+        && sheet[place + 5] == (routine % 256) as u8
 }
 
 // The address is one where the program goes on, with these depths and in this routine: it is marked and put into the queue,
@@ -196,26 +171,24 @@ fn reach(
     work: u8,
     ret: u8,
     routine: u16,
-) -> Reached
+) -> Option<usize>
     requires { Listed program.now sheet.old queue.old tail × Led program.now at work ret routine × Roots program.now sheet.old at ret routine }
     ensures { Marking program.now sheet.old queue.old tail sheet.new queue.new at work ret routine result }
 {
-    if at < START {
-        return Reached::Astray;
-    }
-    let i = (at - START) as usize;
+    let offset = at.checked_sub(START)?;
+    let i = usize::from(offset);
     if program.len() <= i {
-        return Reached::Astray;
+        return None;
     }
     if sheet[SHEET_RECORD * i] == 0 {
         mark(sheet, i, work, ret, routine);
-        queue[tail] = at - START;
-        return Reached::Queued(tail + 1);
+        queue[tail] = offset;
+        return Some(tail + 1);
     }
     if agrees(sheet, i, work, ret, routine) {
-        return Reached::Queued(tail);
+        return Some(tail);
     }
-    Reached::Astray
+    None
 }
 
 // "The address after the call" at place i: its routine has a return at place `from`, with this working depth.
@@ -227,7 +200,7 @@ fn come_back(
     i: usize,
     from: usize,
     work: u8,
-) -> Next
+) -> Result<usize, Fault>
     requires { Listed program.now sheet.old queue.old tail × Marks sheet.old (start + i) × (byte_at program.now (start + i) ≡ 0x60)
         × Passing program.now sheet.old (start + i) × Left program.now sheet.old (target_of program.now (start + i)) from work }
     ensures { Outcome program.now sheet.old queue.old tail sheet.new queue.new
@@ -236,15 +209,15 @@ fn come_back(
     let ret = sheet[SHEET_RECORD * i + 2];
     let routine = routine_of(sheet, i);
     let after = START + (i + 3) as u16;
-    let Reached::Queued(more) = reach(program, sheet, queue, tail, after, work, ret, routine) else {
-        return refuted(Rule::Back, i, from);
+    let Some(more) = reach(program, sheet, queue, tail, after, work, ret, routine) else {
+        return Err(Fault::new(Rule::Back, i, from));
     };
-    Next::Queued(more)
+    Ok(more)
 }
 
 // The first return of the routine at place `entry` of the program stands at place `from`, with this working depth: each call of the
 // routine that was visited goes on, the last one first. `before` has, for a place of the queue with a call, the number of the place
-// with the call before it, as `routines` has the last.
+// with the call before it, as `routines` has the last. A chain: no `for`.
 fn release(
     program: &[u8],
     sheet: &mut [u8],
@@ -255,25 +228,21 @@ fn release(
     entry: usize,
     from: usize,
     work: u8,
-) -> Next
+) -> Result<usize, Fault>
     requires { Listed program.now sheet.old queue.old tail × Chain program.now sheet.old queue.old tail before.now (start + entry) (get_or routines.now entry 0)
         × Left program.now sheet.old (start + entry) from work × (entry < admit_most) }
     ensures { Outcome program.now sheet.old queue.old tail sheet.new queue.new
         (AllBack program.now sheet.new queue.new (start + entry) (get_or routines.now entry 0) work) result }
 {
-    let mut j = wide(routines[entry]);
+    let mut j = usize::from(routines[entry]);
     let mut most = tail;
     while 0 < j {
         let k = j - 1;
-        let i = wide(queue[k]);
-        let next = come_back(program, sheet, queue, most, i, from, work);
-        let Next::Queued(more) = next else {
-            return next;
-        };
-        most = more;
-        j = wide(before[k]);
+        let i = usize::from(queue[k]);
+        most = come_back(program, sheet, queue, most, i, from, work)?;
+        j = usize::from(before[k]);
     }
-    Next::Queued(most)
+    Ok(most)
 }
 
 // 6C at place `head` of the queue.
@@ -285,29 +254,29 @@ pub fn leave(
     head: usize,
     routines: &mut [u16; 4096],
     before: &[u16; 4096],
-) -> Next
+) -> Result<usize, Fault>
     requires { Visit program.now sheet.old queue.old tail head routines.old before.now
         × (get_or program.now (get_or queue.old head 0) 0 ≡ 0x6C)
         × ((work : ℕ) × (ret : ℕ) × Tested program.now sheet.old (get_or queue.old head 0) work ret) }
     ensures { Outcome program.now sheet.old queue.old tail sheet.new queue.new
         (Visited program.now sheet.new queue.new head (placed queue.old head) routines.new before.now) result }
 {
-    let i = wide(queue[head]);
+    let i = usize::from(queue[head]);
     let routine = routine_of(sheet, i);
-    let entry = wide(routine - START);
+    let entry = usize::from(routine - START);
     // "it stands only at the floor"
     if floor_of(sheet, routine) != sheet[SHEET_RECORD * i + 2] {
-        return refuted(Rule::ReturnOffFloor, i, 0);
+        return Err(Fault::new(Rule::ReturnOffFloor, i, 0));
     }
     // "and leaves with one working depth for the whole routine"
     let work = sheet[SHEET_RECORD * i + 1];
     let known = routines[entry];
     if RETURNED <= known {
-        let other = wide(known - RETURNED);
+        let other = usize::from(known - RETURNED);
         if sheet[SHEET_RECORD * other + 1] == work {
-            return Next::Queued(tail);
+            return Ok(tail);
         }
-        return refuted(Rule::ReturnsDiffer, i, other);
+        return Err(Fault::new(Rule::ReturnsDiffer, i, other));
     }
     let next = release(
         program, sheet, queue, tail, routines, before, entry, i, work,
@@ -328,24 +297,24 @@ pub fn call(
     i: usize,
     work: u8,
     ret: u8,
-) -> Next
+) -> Result<usize, Fault>
     requires { Visit program.now sheet.old queue.old tail head routines.old before.old × (i ≡ get_or queue.old head 0)
         × Tested program.now sheet.old i work ret × Above program.now sheet.old i × (get_or program.now i 0 ≡ 0x60) }
     ensures { Outcome program.now sheet.old queue.old tail sheet.new queue.new
         (Visited program.now sheet.new queue.new head (placed queue.old head) routines.new before.new) result }
 {
     let target = jump_target(program, i);
-    let Reached::Queued(more) = reach(program, sheet, queue, tail, target, work, ret, target) else {
-        return refuted(Rule::Target, i, 0);
+    let Some(more) = reach(program, sheet, queue, tail, target, work, ret, target) else {
+        return Err(Fault::new(Rule::Target, i, 0));
     };
-    let entry = wide(target - START);
+    let entry = usize::from(target - START);
     let known = routines[entry];
     if known < RETURNED {
         before[head] = known;
         routines[entry] = (head + 1) as u16;
-        return Next::Queued(more);
+        return Ok(more);
     }
-    let from = wide(known - RETURNED);
+    let from = usize::from(known - RETURNED);
     let back = sheet[SHEET_RECORD * from + 1];
     come_back(program, sheet, queue, more, i, from, back)
 }
@@ -362,7 +331,7 @@ pub fn follow(
     work: u8,
     ret: u8,
     routine: u16,
-) -> Next
+) -> Result<usize, Fault>
     requires { Listed program.now sheet.old queue.old tail × Marks sheet.old (start + i) × Tested program.now sheet.old i work ret
         × Above program.now sheet.old i × (after ≡ i + length_of (get_or program.now i 0)) × (routine ≡ routine_at sheet.old i)
         × (get_or program.now i 0 ≡ 0x60 → ⊥) × (get_or program.now i 0 ≡ 0x6C → ⊥) }
@@ -371,27 +340,25 @@ pub fn follow(
 {
     let byte = program[i];
     if byte == BRK {
-        return Next::Queued(tail);
+        return Ok(tail);
     }
     if byte == JMI {
         let target = jump_target(program, i);
-        let Reached::Queued(more) = reach(program, sheet, queue, tail, target, work, ret, routine)
-        else {
-            return refuted(Rule::Target, i, 0);
+        let Some(more) = reach(program, sheet, queue, tail, target, work, ret, routine) else {
+            return Err(Fault::new(Rule::Target, i, 0));
         };
-        return Next::Queued(more);
+        return Ok(more);
     }
     let next = START + after as u16;
-    let Reached::Queued(more) = reach(program, sheet, queue, tail, next, work, ret, routine) else {
-        return refuted(Rule::After, i, 0);
+    let Some(more) = reach(program, sheet, queue, tail, next, work, ret, routine) else {
+        return Err(Fault::new(Rule::After, i, 0));
     };
     if byte != JCI {
-        return Next::Queued(more);
+        return Ok(more);
     }
     let target = jump_target(program, i);
-    let Reached::Queued(most) = reach(program, sheet, queue, more, target, work, ret, routine)
-    else {
-        return refuted(Rule::Target, i, 0);
+    let Some(most) = reach(program, sheet, queue, more, target, work, ret, routine) else {
+        return Err(Fault::new(Rule::Target, i, 0));
     };
-    Next::Queued(most)
+    Ok(most)
 }

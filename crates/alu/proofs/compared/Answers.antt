@@ -5,18 +5,6 @@ use Rattle.model.specs.Step.{compared}
 use Rattle.alu.proofs.Laws as laws
 use Rattle.alu.proofs.compared.Goals as goal
 
-pub returns-in-0 : goal.returns-in-0
-unfolding compared
-returns-in-0 c = rw c.in-0.is
-
-pub returns-in-1 : goal.returns-in-1
-unfolding compared
-returns-in-1 c = rw c.in-1.is
-
-pub returns-in-2 : goal.returns-in-2
-unfolding compared
-returns-in-2 c = rw c.in-2.is
-
 pub returns-in_default : goal.returns-in_default
 unfolding compared
 returns-in_default c = rw (laws.last (EQU ∷ NEQ ∷ GTH ∷ []) LTH c.args.o (omega arith))

@@ -5,21 +5,6 @@ use Rattle.model.specs.Step.{computed}
 use Rattle.alu.proofs.Laws as laws
 use Rattle.alu.proofs.computed.Goals as goal
 
-pub returns-in-0 : goal.returns-in-0
-unfolding computed
-returns-in-0 c = rw c.in-0.is (omega arith)
-
-pub returns-in-1 : goal.returns-in-1
-unfolding computed
-returns-in-1 c = rw c.in-1.is (omega arith)
-
-pub returns-in-2 : goal.returns-in-2
-unfolding computed
-returns-in-2 c = rw c.in-2.is c.product.ensures
-
-pub returns-in-3 : goal.returns-in-3
-returns-in-3 c = rw c.in-3.is (omega arith)
-
 pub returns-in-4 : goal.returns-in-4
 unfolding computed
 returns-in-4 c = rw c.in-4.is (laws.and_kept c.args.a c.args.b (search rules) (search rules))

@@ -1,12 +1,8 @@
 -- `blocks::move_to_front` meets its contract. The loop's invariant: i bytes have moved, the others are as they were. Assumes nothing.
 use mathlib.Core.Path.{◌≡◌}
 use mathlib.Core.List.{◌++◌}
-use Prim.Native.Nat.{◌≤◌, ◌-◌}
-use lib.ListN.{length, take, drop}
+use lib.ListN.{take, drop}
 use Rattle.blocks.proofs.move_to_front.Given as goal
 
 abbrev pub invariant-loop-i : goal.invariant-loop-i
-invariant-loop-i l = (l.i ≤ l.n) × (length l.block ≡ length l.initial.block) × (l.block ≡ take l.i (drop l.start l.initial.block) ++ drop l.i l.initial.block)
-
-abbrev pub decreases-loop-i : goal.decreases-loop-i
-decreases-loop-i l = l.n - l.i
+invariant-loop-i l = l.block ≡ take l.i (drop l.start l.initial.block) ++ drop l.i l.initial.block

@@ -8,10 +8,15 @@ use Rattle.blocks.proofs.Blocks as blocks
 use Rattle.blocks.proofs.work_off.Goals as goal
 
 pub slice_bounds-frames-end-2 : goal.slice_bounds-frames-end-2
-slice_bounds-frames-end-2 c = sym (length-take-le c.args.n c.args.block.now (omega arith))
+slice_bounds-frames-end-2 g c = sym (length-take-le c.args.n c.args.block.now (omega arith))
 
-pub frames-done-requires : goal.frames-done-requires
-frames-done-requires c = let e = length-take-le c.args.n c.args.block.now (omega arith) in omega (arith, e)
+pub frames-machine-requires : goal.frames-machine-requires
+frames-machine-requires g c = let e = length-take-le c.args.n c.args.block.now (omega arith) in omega (arith, e)
 
 pub returns : goal.returns
-returns c = record { block_after = blocks.worked c.args.n (c.args.n % frame_size) c.args.block.now _ _ _ _ (omega arith) (omega arith) c.move_to_front.ensures c.frames-done.ensures.machine_left c.frames-done.ensures.lines_written.1; bounds = (omega arith, omega arith, omega arith) }
+returns g c =
+    record {
+      block_after =
+          blocks.worked c.args.n (c.args.n % frame_size) c.args.block.now _ _ _ _ _ (omega arith) (omega arith) c.move_to_front.ensures c.frames-machine.ensures.machine_left c.frames-machine.ensures.lines_put;
+      bounds = (omega arith, omega arith);
+    }

@@ -6,4 +6,4 @@ use Rattle.buffers.proofs.load_memory.Goals as goal
 pub returns : goal.returns
 unfolding load
 returns c =
-    parts.filled-from 256 65280 c.args.memory.now c.args.program.now c.clear.new.bytes _ c.requires.0 c.clear.ensures c.fill.ensures
+    parts.filled-from 256 65280 c.args.memory.now c.args.program.now c.clear.new.bytes _ c.told-memory c.clear.ensures c.fill.ensures

@@ -1,7 +1,6 @@
 -- `capi::uxn_install` meets its contract. Assumes nothing.
 use mathlib.Core.Path.{ap, ◌∙◌}
 use Rattle.creply.specs.Exported.{Returned, install_returned, exported_install}
-use borrow.Author.Rules.{rules}
 use Rattle.capi.proofs.uxn_install.Goals as goal
 
 pub returns : goal.returns

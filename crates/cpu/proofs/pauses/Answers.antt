@@ -1,10 +1,7 @@
 -- `cpu::pauses` meets its contract. Assumes nothing.
-use Rattle.std.proofs.Common.{arith}
+use Rattle.std.proofs.Common.{arith, rules, ◌<◌}
 use Rattle.cpu.proofs.Runs.{among_places}
 use Rattle.cpu.proofs.pauses.Goals as goal
 
-pub returns-in-Nothing : goal.returns-in-Nothing
-returns-in-Nothing c = rw c.in-Nothing.is
-
-pub returns-in-Port : goal.returns-in-Port
-returns-in-Port c = rw c.in-Port.is (among_places _ _ _ (omega arith) c.wrapping_sub_u8.ensures.value)
+pub returns-in-Some : goal.returns-in-Some
+returns-in-Some c = let h : c.in-Some.port < 256 = search rules in rw c.in-Some.is (among_places _ _ _ (omega arith) (omega (arith, h)))

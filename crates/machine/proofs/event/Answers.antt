@@ -1,32 +1,27 @@
 -- `machine::event` meets its contract. Assumes nothing.
-use Rattle.machine.proofs.Calls as calls
-use Rattle.model.proofs.Numbers as numbers
 use mathlib.Core.Path.{◌∙◌}
 use native.Mathlib.Omega.{arith}
+use Rattle.model.proofs.Numbers as numbers
 use Rattle.model.specs.Calls.{event_call}
-use borrow.Author.Rules.{rules}
+use Rattle.refusals.proofs.Refusals.{some_number}
+use Rattle.machine.proofs.Calls as calls
 use Rattle.machine.proofs.event.Goals as goal
 
-pub returns-then-number-ne0 : goal.returns-then-number-ne0
+pub returns-in-Err : goal.returns-in-Err
 unfolding event_call
-returns-then-number-ne0 c = numbers.refused _ _ _ (c.event_refusal-number.ensures _) c.if-number-ne0.true
-
-pub overflow_cast-device : goal.overflow_cast-device
-overflow_cast-device c = search (rules, (numbers.event_right _ _ (numbers.none _ (c.event_refusal-number.ensures c.args.m) c.if-number-ne0.false)).1)
-
-pub overflow_mul-device : goal.overflow_mul-device
-overflow_mul-device c = search (rules, (numbers.event_right _ _ (numbers.none _ (c.event_refusal-number.ensures c.args.m) c.if-number-ne0.false)).1)
-
-pub input-vector-requires : goal.input-vector-requires
-input-vector-requires c = (numbers.event_right _ _ (numbers.none _ (c.event_refusal-number.ensures c.args.m) c.if-number-ne0.false)).0.devices
+returns-in-Err c = rw c.refused.ensures (numbers.refused _ _ _ (c.in-Err.ensures.number _) (some_number _))
 
 pub returns-then-vector-eq0 : goal.returns-then-vector-eq0
 unfolding event_call
-returns-then-vector-eq0 c = numbers.taken _ _ _ (c.event_refusal-number.ensures _) c.if-number-ne0.false (calls.ignored _ _ _ _ (calls.vector_is _ _ (omega arith) c.input-vector.ensures) (omega arith))
-
-pub run-end-requires : goal.run-end-requires
-run-end-requires c = calls.resized _ _ _ _ c.args.m _ (numbers.event_right _ _ (numbers.none _ (c.event_refusal-number.ensures c.args.m) c.if-number-ne0.false)).0
+returns-then-vector-eq0 c =
+    let read = rw c.sized-devices.ensures.value at c.input-vector.ensures in
+    rw c.sized-devices.ensures.value
+    (numbers.taken _ _ _ (c.in_default.ensures.number _) (omega arith) (calls.ignored _ _ _ _ (calls.vector_is _ _ (omega arith) read) (omega arith)))
 
 pub returns : goal.returns
 unfolding event_call
-returns c = numbers.taken _ _ _ (c.event_refusal-number.ensures _) c.if-number-ne0.false (calls.runs_from _ _ _ _ (calls.vector_is _ _ (omega arith) c.input-vector.ensures) (λ z. omega arith) (rw c.event_of.ensures (calls.event_is _ _ c.run-end.result ∙ c.run-end.ensures.0)))
+returns c =
+    let read = rw c.sized-devices.ensures.value at c.input-vector.ensures in
+    let lent = rw (c.sized-memory.ensures.value, c.sized-devices.ensures.value, c.sized-work.ensures.value, c.sized-ret.ensures.value) at c.run-end.ensures.0 in
+    numbers.taken _ _ _ (c.in_default.ensures.number _) (omega arith)
+    (calls.runs_from _ _ _ _ (calls.vector_is _ _ (omega arith) read) (λ z. omega arith) (rw c.run_of.ensures (calls.run_is _ _ c.run-end.result ∙ lent)))

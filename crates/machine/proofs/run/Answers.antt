@@ -1,17 +1,18 @@
 -- `machine::run` meets its contract. Assumes nothing.
-use Rattle.machine.proofs.Calls as calls
-use Rattle.model.proofs.Numbers as numbers
 use mathlib.Core.Path.{◌∙◌}
+use native.Mathlib.Omega.{arith}
+use Rattle.model.proofs.Numbers as numbers
 use Rattle.model.specs.Calls.{run_call}
+use Rattle.refusals.proofs.Refusals.{some_number}
+use Rattle.machine.proofs.Calls as calls
 use Rattle.machine.proofs.run.Goals as goal
 
-pub returns-then-number-ne0 : goal.returns-then-number-ne0
+pub returns-in-Err : goal.returns-in-Err
 unfolding run_call
-returns-then-number-ne0 c = numbers.refused _ _ _ (c.wrong_length-number.ensures _) c.if-number-ne0.true
-
-pub run-requires : goal.run-requires
-run-requires c = numbers.sized _ (c.wrong_length-number.ensures _) c.if-number-ne0.false
+returns-in-Err c = rw c.refused.ensures (numbers.refused _ _ _ (c.in-Err.ensures.number _) (some_number _))
 
 pub returns : goal.returns
 unfolding run_call
-returns c = numbers.taken _ _ _ (c.wrong_length-number.ensures _) c.if-number-ne0.false (rw c.run_of.ensures (calls.run_is _ _ c.run.result ∙ c.run.ensures.0))
+returns c =
+    let lent = rw (c.sized-memory.ensures.value, c.sized-devices.ensures.value, c.sized-work.ensures.value, c.sized-ret.ensures.value) at c.run-end.ensures.0 in
+    numbers.taken _ _ _ (c.in_default.ensures.number _) (omega arith) (rw c.run_of.ensures (calls.run_is _ _ c.run-end.result ∙ lent))

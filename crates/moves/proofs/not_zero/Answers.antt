@@ -1,26 +1,15 @@
--- `moves::not_zero` meets its contract. The loop's invariant: the bytes before i are 0. Assumes nothing.
-use mathlib.Core.Path.{refl}
-use native.Mathlib.Omega.{arith}
+-- `moves::not_zero` meets its contract. Assumes nothing.
+use mathlib.Core.Path.{◌∙◌}
+use mathlib.Core.Bool.{not}
+use lib.Dec.{eqb}
+use borrow.Author.Rules.{rules}
+use borrow.Author.Tests.{tests}
+use Rattle.std.proofs.lemmas.Iterator.{YieldsList-from_slice}
+use Rattle.std.proofs.lemmas.Iterator.Search.{any_from_yields_List}
 use Rattle.moves.proofs.Records as records
 use Rattle.moves.proofs.not_zero.Goals as goal
 
-pub loop-i-init : goal.loop-i-init
-loop-i-init c = (omega arith, refl)
-
-pub bounds-bytes-i : goal.bounds-bytes-i
-bounds-bytes-i c = omega arith
-
-pub returns-then-bytes-i-ne0 : goal.returns-then-bytes-i-ne0
-returns-then-bytes-i-ne0 c = records.byte-found _ c.loop-i.i c.loop-i.invariant.1 c.loop-i-test.true c.if-bytes-i-ne0.true
-
-pub overflow_add-i : goal.overflow_add-i
-overflow_add-i c = omega arith
-
-pub loop-i-smaller : goal.loop-i-smaller
-loop-i-smaller c = omega arith
-
-pub loop-i-preserved : goal.loop-i-preserved
-loop-i-preserved c = (omega arith, records.byte-zero _ c.loop-i.i c.loop-i.invariant.1 c.loop-i-test.true c.if-bytes-i-ne0.false)
-
 pub returns : goal.returns
-returns c = records.all_seen _ c.loop-i.i c.loop-i.invariant.1 c.loop-i-test.false
+returns c =
+    any_from_yields_List (λ byte. not (eqb byte 0)) _ _ _ c.any.ensures.ran (YieldsList-from_slice _ c.iter.ensures.rest) (λ x b q k. search (rules, tests))
+    ∙ records.some_not_zero c.args.bytes.now

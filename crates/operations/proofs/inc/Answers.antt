@@ -7,4 +7,4 @@ use Rattle.operations.proofs.inc.Goals as goal
 
 pub returns : goal.returns
 unfolding laws.tables
-returns c = laws.gave _ _ _ _ INC _ (took.one _ _ c.size_of-n.ensures.0 c.operands-x.ensures c.lower.ensures) (took.push_kept _ _ _ _ (omega (arith, c.wrapping_add_u16.ensures.value)) c.push.ensures)
+returns c = laws.gave _ _ _ _ INC _ (took.one _ _ c.size_of-n.ensures.0 c.operands-x.ensures c.lower.ensures) (took.push_kept _ _ _ _ (omega arith) c.push.ensures)

@@ -1,6 +1,7 @@
 -- `rules::jump_target` meets its contract. Assumes nothing.
+use mathlib.Core.Path.{refl}
 use Rattle.rules.proofs.Instructions.{target_is}
 use Rattle.rules.proofs.jump_target.Goals as goal
 
 pub returns : goal.returns
-returns c = target_is c.args.program.now c.args.i _ _ c.requires.0 c.two_bytes.ensures c.wrapping_add_u16.ensures.value
+returns c = target_is c.args.program.now c.args.i _ _ c.requires.0 c.from_be_bytes-offset.ensures refl

@@ -7,4 +7,4 @@ pub returns-then-n-eq0 : goal.returns-then-n-eq0
 returns-then-n-eq0 c = none_below _ _ c.if-n-eq0.true
 
 pub returns : goal.returns
-returns c = some_below _ _ _ c.if-n-eq0.false (omega arith) c.wrapping_sub_u8-low.ensures.value c.wrapping_sub_u8-high.ensures.value (omega arith) (omega arith) c.read.ensures
+returns c = some_below _ _ _ _ c.if-n-eq0.false (omega arith) (omega arith) c.read_in.ensures

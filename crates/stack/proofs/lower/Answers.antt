@@ -7,4 +7,4 @@ pub returns-then-keep : goal.returns-then-keep
 returns-then-keep c = kept _ _ c.if-keep.true
 
 pub returns-else-keep : goal.returns-else-keep
-returns-else-keep c = lower_is _ _ c.if-keep.false c.wrapping_sub_u8.ensures.value (omega arith)
+returns-else-keep c = lower_is _ _ c.if-keep.false (omega arith) (omega arith)

@@ -7,7 +7,7 @@ use Rattle.transfers.proofs.jci.Goals as goal
 
 pub returns-then-x-eq0 : goal.returns-then-x-eq0
 unfolding laws.tables
-returns-then-x-eq0 c = laws.jumped _ _ _ _ JCI false _ _ _ (took.read_one _ 1 1 refl c.operands-x.ensures) (laws.stays _ _ _ c.if-x-eq0.true c.wrapping_add_u16.ensures.value)
+returns-then-x-eq0 c = laws.jumped _ _ _ _ JCI false _ _ _ (took.read_one _ 1 1 refl c.operands-x.ensures) (laws.stays _ _ _ c.if-x-eq0.true refl)
 
 pub returns-else-x-eq0 : goal.returns-else-x-eq0
 unfolding laws.tables

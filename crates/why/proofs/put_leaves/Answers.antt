@@ -1,11 +1,8 @@
 -- `why::put_leaves` meets its contract. Assumes nothing.
-use mathlib.Core.Path.{refl}
-use lib.ListN.{take}
-use native.Mathlib.Omega.{arith}
 use Rattle.why.specs.Explained.{leaves}
-use Rattle.words.proofs.Putting.{puts, end, ◌then◌}
+use Rattle.words.proofs.Joined.{pieces}
 use Rattle.why.proofs.put_leaves.Goals as goal
 
-pub returns : goal.returns
+pub returns-clause-bytes : goal.returns-clause-bytes
 unfolding leaves
-returns c = (omega arith, puts (take c.args.at c.args.out.now) (refl then c.put_with_count-after_count.ensures.1 then c.put-after_on.ensures.1 then c.put-after_stack.ensures.1 then c.put.ensures.1 then end))
+returns-clause-bytes g c = simp (pieces, c.put-3.ensures.bytes, c.put-2.ensures.bytes, c.put.ensures.bytes, c.put_with_count.ensures.bytes)

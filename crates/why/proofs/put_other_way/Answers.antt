@@ -1,11 +1,8 @@
 -- `why::put_other_way` meets its contract. Assumes nothing.
-use mathlib.Core.Path.{refl}
-use lib.ListN.{take}
-use native.Mathlib.Omega.{arith}
 use Rattle.why.specs.Explained.{other_way}
-use Rattle.words.proofs.Putting.{puts, end, ◌then◌}
+use Rattle.words.proofs.Joined.{pieces}
 use Rattle.why.proofs.put_other_way.Goals as goal
 
-pub returns : goal.returns
+pub returns-clause-bytes : goal.returns-clause-bytes
 unfolding other_way
-returns c = (omega arith, puts (take c.args.at c.args.out.now) (refl then c.put_with_number-after_work.ensures.1 then refl then c.put_with_number-after_ret.ensures.1 then c.put_in_routine.ensures.1 then end))
+returns-clause-bytes g c = simp (pieces, c.put_in_routine.ensures.bytes, c.put_with_number-2.ensures.bytes, c.put_with_number.ensures.bytes)

@@ -1,11 +1,8 @@
 -- `why::put_outside` meets its contract. Assumes nothing.
-use mathlib.Core.Path.{refl}
-use lib.ListN.{take}
-use native.Mathlib.Omega.{arith}
 use Rattle.why.specs.Explained.{goes_outside}
-use Rattle.words.proofs.Putting.{puts, end, ◌then◌}
+use Rattle.words.proofs.Joined.{pieces}
 use Rattle.why.proofs.put_outside.Goals as goal
 
-pub returns : goal.returns
+pub returns-clause-bytes : goal.returns-clause-bytes
 unfolding goes_outside
-returns c = (omega arith, puts (take c.args.at c.args.out.now) (refl then c.put_with_hex-after_next.ensures.1 then refl then c.put_with_hex.ensures.1 then end))
+returns-clause-bytes g c = simp (pieces, c.put_with_hex-2.ensures.bytes, c.put_with_hex.ensures.bytes)

@@ -1,11 +1,8 @@
 -- `why::put_returns_differ` meets its contract. Assumes nothing.
-use mathlib.Core.Path.{refl}
-use lib.ListN.{take}
-use native.Mathlib.Omega.{arith}
 use Rattle.why.specs.Explained.{returns_differ}
-use Rattle.words.proofs.Putting.{puts, end, ◌then◌}
+use Rattle.words.proofs.Joined.{pieces}
 use Rattle.why.proofs.put_returns_differ.Goals as goal
 
-pub returns : goal.returns
+pub returns-clause-bytes : goal.returns-clause-bytes
 unfolding returns_differ
-returns c = (omega arith, puts (take c.args.at c.args.out.now) (c.put_returns-after_returns.ensures.1 then refl then c.put_with_hex-after_other.ensures.1 then refl then c.put_with_number.ensures.1 then end))
+returns-clause-bytes g c = simp (pieces, c.put_with_number.ensures.bytes, c.put_with_hex.ensures.bytes, c.put_returns.ensures.bytes)

@@ -11,20 +11,11 @@ jump_target-target-requires c = visits.jsi_inside _ _ _ _ c.requires.0.list _ (r
 pub reach-requires : goal.reach-requires
 reach-requires c = returning.call_asks _ _ _ _ _ _ _ c.requires.0 _ c.requires.1 c.requires.4 _ _ c.requires.2 c.requires.3 _ c.jump_target-target.ensures
 
-pub refuted-requires : goal.refuted-requires
-refuted-requires c = (worklist.marked-low _ _ _ _ c.requires.0.list _ (returning.here _ _ _ _ _ _ _ c.requires.0 _ c.requires.1), omega arith)
-
 pub returns-in_default : goal.returns-in_default
-returns-in_default c = worklist.tells _ _ _ _ _ _ _ _ _ _ c.refuted.result c.refuted.ensures (returning.call_astray _ _ _ _ _ _ _ c.requires.0 _ c.requires.1 c.requires.4 _ _ c.requires.2 c.requires.3 _ c.jump_target-target.ensures _ (worklist.is_astray _ _ _ _ _ _ _ _ _ _ c.reach.result c.in_default.is c.reach.ensures))
-
-pub overflow_sub-target : goal.overflow_sub-target
-overflow_sub-target c = returning.target-low _ _ _ _ _ _ _ c.requires.0 _ c.requires.1 c.requires.4 _ _ c.requires.2 c.requires.3 _ c.jump_target-target.ensures _ _ _ (worklist.is_marked_lem _ _ _ _ _ _ _ _ _ _ c.reach.result _ c.in-Queued.is c.reach.ensures)
-
-pub offset_bounds-routines-entry : goal.offset_bounds-routines-entry
-offset_bounds-routines-entry c = omega (arith, returning.target-inside _ _ _ _ _ _ _ c.requires.0 _ c.requires.1 c.requires.4 _ _ c.requires.2 c.requires.3 _ c.jump_target-target.ensures _ _ _ (worklist.is_marked_lem _ _ _ _ _ _ _ _ _ _ c.reach.result _ c.in-Queued.is c.reach.ensures) _ c.wide-entry.ensures)
+returns-in_default c = worklist.tells _ _ _ _ _ _ c.new.ensures (returning.call_astray _ _ _ _ _ _ _ c.requires.0 _ c.requires.1 c.requires.4 _ _ c.requires.2 c.requires.3 _ c.jump_target-target.ensures _ c.in_default.ensures)
 
 pub bounds-routines-entry : goal.bounds-routines-entry
-bounds-routines-entry c = omega (arith, returning.target-inside _ _ _ _ _ _ _ c.requires.0 _ c.requires.1 c.requires.4 _ _ c.requires.2 c.requires.3 _ c.jump_target-target.ensures _ _ _ (worklist.is_marked_lem _ _ _ _ _ _ _ _ _ _ c.reach.result _ c.in-Queued.is c.reach.ensures) _ c.wide-entry.ensures)
+bounds-routines-entry c = omega (arith, returning.target-inside _ _ _ _ _ _ _ c.requires.0 _ c.requires.1 c.requires.4 _ _ c.requires.2 c.requires.3 _ c.jump_target-target.ensures _ _ _ c.in-Some.ensures _ c.from-entry.ensures)
 
 pub offset_bounds-before-head : goal.offset_bounds-before-head
 offset_bounds-before-head c = omega (arith, returning.head_inside _ _ _ _ _ _ _ c.requires.0 _ c.requires.1)
@@ -32,32 +23,20 @@ offset_bounds-before-head c = omega (arith, returning.head_inside _ _ _ _ _ _ _ 
 pub bounds-before-head : goal.bounds-before-head
 bounds-before-head c = omega (arith, returning.head_inside _ _ _ _ _ _ _ c.requires.0 _ c.requires.1)
 
-pub overflow_add-routines : goal.overflow_add-routines
-overflow_add-routines c = omega (arith, returning.head_inside _ _ _ _ _ _ _ c.requires.0 _ c.requires.1)
-
 pub overflow_cast-routines : goal.overflow_cast-routines
 overflow_cast-routines c = omega (arith, returning.head_inside _ _ _ _ _ _ _ c.requires.0 _ c.requires.1)
 
-pub offset_bounds-routines-entry-then-known-lt-RETURNED : goal.offset_bounds-routines-entry-then-known-lt-RETURNED
-offset_bounds-routines-entry-then-known-lt-RETURNED c = omega (arith, returning.target-inside _ _ _ _ _ _ _ c.requires.0 _ c.requires.1 c.requires.4 _ _ c.requires.2 c.requires.3 _ c.jump_target-target.ensures _ _ _ (worklist.is_marked_lem _ _ _ _ _ _ _ _ _ _ c.reach.result _ c.in-Queued.is c.reach.ensures) _ c.wide-entry.ensures)
-
 pub bounds-routines-entry-then-known-lt-RETURNED : goal.bounds-routines-entry-then-known-lt-RETURNED
-bounds-routines-entry-then-known-lt-RETURNED c = omega (arith, returning.target-inside _ _ _ _ _ _ _ c.requires.0 _ c.requires.1 c.requires.4 _ _ c.requires.2 c.requires.3 _ c.jump_target-target.ensures _ _ _ (worklist.is_marked_lem _ _ _ _ _ _ _ _ _ _ c.reach.result _ c.in-Queued.is c.reach.ensures) _ c.wide-entry.ensures)
+bounds-routines-entry-then-known-lt-RETURNED c = omega (arith, returning.target-inside _ _ _ _ _ _ _ c.requires.0 _ c.requires.1 c.requires.4 _ _ c.requires.2 c.requires.3 _ c.jump_target-target.ensures _ _ _ c.in-Some.ensures _ c.from-entry.ensures)
 
 pub returns-then-known-lt-RETURNED : goal.returns-then-known-lt-RETURNED
-returns-then-known-lt-RETURNED c = returning.no_return _ _ _ _ _ _ _ c.requires.0 _ c.requires.1 c.requires.4 _ _ c.requires.2 c.requires.3 _ c.jump_target-target.ensures _ _ _ (worklist.is_marked_lem _ _ _ _ _ _ _ _ _ _ c.reach.result _ c.in-Queued.is c.reach.ensures) _ c.wide-entry.ensures (omega arith)
-
-pub overflow_mul-back : goal.overflow_mul-back
-overflow_mul-back c = omega (arith, returning.from-inside _ _ _ _ _ _ _ c.requires.0 _ c.requires.1 c.requires.4 _ _ c.requires.2 c.requires.3 _ c.jump_target-target.ensures _ _ _ (worklist.is_marked_lem _ _ _ _ _ _ _ _ _ _ c.reach.result _ c.in-Queued.is c.reach.ensures) _ c.wide-entry.ensures (omega arith) _ c.wide-from.ensures, c.requires.0.list.most)
-
-pub overflow_add-back : goal.overflow_add-back
-overflow_add-back c = omega (arith, returning.from-inside _ _ _ _ _ _ _ c.requires.0 _ c.requires.1 c.requires.4 _ _ c.requires.2 c.requires.3 _ c.jump_target-target.ensures _ _ _ (worklist.is_marked_lem _ _ _ _ _ _ _ _ _ _ c.reach.result _ c.in-Queued.is c.reach.ensures) _ c.wide-entry.ensures (omega arith) _ c.wide-from.ensures, c.requires.0.list.most)
+returns-then-known-lt-RETURNED c = returning.no_return _ _ _ _ _ _ _ c.requires.0 _ c.requires.1 c.requires.4 _ _ c.requires.2 c.requires.3 _ c.jump_target-target.ensures _ _ _ c.in-Some.ensures _ c.from-entry.ensures (omega arith)
 
 pub bounds-sheet-from : goal.bounds-sheet-from
-bounds-sheet-from c = omega (arith, returning.from_record _ _ _ _ _ _ _ c.requires.0 _ c.requires.1 c.requires.4 _ _ c.requires.2 c.requires.3 _ c.jump_target-target.ensures _ _ _ (worklist.is_marked_lem _ _ _ _ _ _ _ _ _ _ c.reach.result _ c.in-Queued.is c.reach.ensures) _ c.wide-entry.ensures (omega arith) _ c.wide-from.ensures)
+bounds-sheet-from c = omega (arith, returning.from_record _ _ _ _ _ _ _ c.requires.0 _ c.requires.1 c.requires.4 _ _ c.requires.2 c.requires.3 _ c.jump_target-target.ensures _ _ _ c.in-Some.ensures _ c.from-entry.ensures (omega arith) _ c.from-from.ensures)
 
 pub come_back-requires : goal.come_back-requires
-come_back-requires c = returning.come_asks _ _ _ _ _ _ _ c.requires.0 _ c.requires.1 c.requires.4 _ _ c.requires.2 c.requires.3 _ c.jump_target-target.ensures _ _ _ (worklist.is_marked_lem _ _ _ _ _ _ _ _ _ _ c.reach.result _ c.in-Queued.is c.reach.ensures) _ c.wide-entry.ensures (omega arith) _ c.wide-from.ensures
+come_back-requires c = returning.come_asks _ _ _ _ _ _ _ c.requires.0 _ c.requires.1 c.requires.4 _ _ c.requires.2 c.requires.3 _ c.jump_target-target.ensures _ _ _ c.in-Some.ensures _ c.from-entry.ensures (omega arith) _ c.from-from.ensures
 
 pub returns : goal.returns
-returns c = returning.come_visited _ _ _ _ _ _ _ c.requires.0 _ c.requires.1 c.requires.4 _ _ c.requires.2 c.requires.3 _ c.jump_target-target.ensures _ _ _ (worklist.is_marked_lem _ _ _ _ _ _ _ _ _ _ c.reach.result _ c.in-Queued.is c.reach.ensures) _ c.wide-entry.ensures (omega arith) _ c.wide-from.ensures _ _ c.come_back.result c.come_back.ensures
+returns c = returning.come_visited _ _ _ _ _ _ _ c.requires.0 _ c.requires.1 c.requires.4 _ _ c.requires.2 c.requires.3 _ c.jump_target-target.ensures _ _ _ c.in-Some.ensures _ c.from-entry.ensures (omega arith) _ c.from-from.ensures _ _ c.come_back.result c.come_back.ensures

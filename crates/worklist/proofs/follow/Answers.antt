@@ -17,44 +17,29 @@ jump_target-target-requires c = visits.jmi_inside _ _ _ _ c.requires.0 _ c.requi
 pub reach-requires : goal.reach-requires
 reach-requires c = (c.requires.0, visits.led-jump _ _ _ _ c.requires.0 _ c.requires.1 _ _ c.requires.2 c.if-byte-eq-JMI.true _ c.jump_target-target.ensures _ c.requires.5, inr (visits.root_after _ _ _ _ c.requires.0 _ c.requires.1 _ _ c.requires.2 c.requires.3 _ c.requires.5))
 
-pub refuted-requires : goal.refuted-requires
-refuted-requires c = (worklist.marked-low _ _ _ _ c.requires.0 _ c.requires.1, omega arith)
-
 pub returns-in_default : goal.returns-in_default
-returns-in_default c = worklist.tells _ _ _ _ _ _ _ _ _ _ c.refuted.result c.refuted.ensures (visits.jump_astray _ _ _ _ c.requires.0 _ c.requires.1 _ _ c.requires.2 c.if-byte-eq-JMI.true _ _ c.jump_target-target.ensures _ c.requires.5 (worklist.is_astray _ _ _ _ _ _ _ _ _ _ c.reach.result c.in_default.is c.reach.ensures))
+returns-in_default c = worklist.tells _ _ _ _ _ _ c.new.ensures (visits.jump_astray _ _ _ _ c.requires.0 _ c.requires.1 _ _ c.requires.2 c.if-byte-eq-JMI.true _ _ c.jump_target-target.ensures _ c.requires.5 c.in_default.ensures)
 
 pub returns-then-byte-eq-JMI : goal.returns-then-byte-eq-JMI
-returns-then-byte-eq-JMI c = visits.jump_ends _ _ _ _ c.requires.0 _ c.requires.1 _ _ c.requires.2 c.requires.3 _ _ c.requires.4 c.requires.5 c.requires.6 c.requires.7 _ _ _ c.if-byte-eq-JMI.true _ c.jump_target-target.ensures (worklist.is_marked_lem _ _ _ _ _ _ _ _ _ _ c.reach.result _ c.in-Queued.is c.reach.ensures)
-
-pub overflow_cast-next : goal.overflow_cast-next
-overflow_cast-next c = omega (arith, c.requires.2.whole, c.requires.4, c.requires.0.most)
-
-pub overflow_add-next : goal.overflow_add-next
-overflow_add-next c = omega (arith, c.requires.2.whole, c.requires.4, c.requires.0.most)
+returns-then-byte-eq-JMI c = visits.jump_ends _ _ _ _ c.requires.0 _ c.requires.1 _ _ c.requires.2 c.requires.3 _ _ c.requires.4 c.requires.5 c.requires.6 c.requires.7 _ _ _ c.if-byte-eq-JMI.true _ c.jump_target-target.ensures c.in-Some.ensures
 
 pub reach-requires-2 : goal.reach-requires-2
 reach-requires-2 c = (c.requires.0, visits.led-next _ _ _ _ c.requires.0 _ c.requires.1 _ _ c.requires.2 c.requires.3 _ _ c.requires.4 c.requires.5 c.requires.6 c.requires.7 c.if-byte-eq-BRK.false c.if-byte-eq-JMI.false, inr (visits.root_after _ _ _ _ c.requires.0 _ c.requires.1 _ _ c.requires.2 c.requires.3 _ c.requires.5))
 
-pub refuted-requires-in_default-reach : goal.refuted-requires-in_default-reach
-refuted-requires-in_default-reach c = (worklist.marked-low _ _ _ _ c.requires.0 _ c.requires.1, omega arith)
-
 pub returns-in_default-reach : goal.returns-in_default-reach
-returns-in_default-reach c = worklist.tells _ _ _ _ _ _ _ _ _ _ c.refuted-in_default-reach.result c.refuted-in_default-reach.ensures (visits.next_astray _ _ _ _ c.requires.0 _ c.requires.1 _ _ c.requires.2 c.requires.3 _ _ c.requires.4 c.requires.5 c.requires.6 c.requires.7 c.if-byte-eq-BRK.false c.if-byte-eq-JMI.false _ (worklist.is_astray _ _ _ _ _ _ _ _ _ _ c.reach-2.result c.in_default-reach.is c.reach-2.ensures))
+returns-in_default-reach c = worklist.tells _ _ _ _ _ _ c.new-in_default-reach.ensures (visits.next_astray _ _ _ _ c.requires.0 _ c.requires.1 _ _ c.requires.2 c.requires.3 _ _ c.requires.4 c.requires.5 c.requires.6 c.requires.7 c.if-byte-eq-BRK.false c.if-byte-eq-JMI.false _ c.in_default-reach.ensures)
 
 pub returns-then-byte-ne-JCI : goal.returns-then-byte-ne-JCI
-returns-then-byte-ne-JCI c = visits.next_ends _ _ _ _ c.requires.0 _ c.requires.1 _ _ c.requires.2 c.requires.3 _ _ c.requires.4 c.requires.5 c.requires.6 c.requires.7 _ _ _ c.if-byte-eq-BRK.false c.if-byte-eq-JMI.false (λ z. omega arith) (worklist.is_marked_lem _ _ _ _ _ _ _ _ _ _ c.reach-2.result _ c.in-Queued-reach.is c.reach-2.ensures)
+returns-then-byte-ne-JCI c = visits.next_ends _ _ _ _ c.requires.0 _ c.requires.1 _ _ c.requires.2 c.requires.3 _ _ c.requires.4 c.requires.5 c.requires.6 c.requires.7 _ _ _ c.if-byte-eq-BRK.false c.if-byte-eq-JMI.false (λ z. omega arith) c.in-Some-reach.ensures
 
 pub jump_target-target-requires-2 : goal.jump_target-target-requires-2
 jump_target-target-requires-2 c = visits.jci_inside _ _ _ _ c.requires.0 _ c.requires.1 _ _ c.requires.2 (omega arith)
 
 pub reach-requires-3 : goal.reach-requires-3
-reach-requires-3 c = ((worklist.is_marked_lem _ _ _ _ _ _ _ _ _ _ c.reach-2.result _ c.in-Queued-reach.is c.reach-2.ensures).0.list, visits.led_branch _ _ _ _ c.requires.0 _ c.requires.1 _ _ c.requires.2 c.requires.3 _ _ c.requires.4 c.requires.5 c.requires.6 c.requires.7 (omega arith) _ c.jump_target-target-2.ensures, inr (worklist.grown-rooted _ _ _ (worklist.is_marked_lem _ _ _ _ _ _ _ _ _ _ c.reach-2.result _ c.in-Queued-reach.is c.reach-2.ensures).0.grown _ _ (visits.root_after _ _ _ _ c.requires.0 _ c.requires.1 _ _ c.requires.2 c.requires.3 _ c.requires.5)))
-
-pub refuted-requires-in_default-reach-2 : goal.refuted-requires-in_default-reach-2
-refuted-requires-in_default-reach-2 c = (worklist.marked-low _ _ _ _ c.requires.0 _ c.requires.1, omega arith)
+reach-requires-3 c = (c.in-Some-reach.ensures.0.list, visits.led_branch _ _ _ _ c.requires.0 _ c.requires.1 _ _ c.requires.2 c.requires.3 _ _ c.requires.4 c.requires.5 c.requires.6 c.requires.7 (omega arith) _ c.jump_target-target-2.ensures, inr (worklist.grown-rooted _ _ _ c.in-Some-reach.ensures.0.grown _ _ (visits.root_after _ _ _ _ c.requires.0 _ c.requires.1 _ _ c.requires.2 c.requires.3 _ c.requires.5)))
 
 pub returns-in_default-reach-2 : goal.returns-in_default-reach-2
-returns-in_default-reach-2 c = worklist.tells _ _ _ _ _ _ _ _ _ _ c.refuted-in_default-reach-2.result c.refuted-in_default-reach-2.ensures (visits.branch_astray _ _ _ _ c.requires.0 _ c.requires.1 _ _ _ (worklist.is_marked_lem _ _ _ _ _ _ _ _ _ _ c.reach-2.result _ c.in-Queued-reach.is c.reach-2.ensures).0 _ _ c.requires.2 c.requires.3 _ _ c.requires.4 c.requires.5 c.requires.6 c.requires.7 (omega arith) _ _ c.jump_target-target-2.ensures (worklist.is_astray _ _ _ _ _ _ _ _ _ _ c.reach-3.result c.in_default-reach-2.is c.reach-3.ensures))
+returns-in_default-reach-2 c = worklist.tells _ _ _ _ _ _ c.new-in_default-reach-2.ensures (visits.branch_astray _ _ _ _ c.requires.0 _ c.requires.1 _ _ _ c.in-Some-reach.ensures.0 _ _ c.requires.2 c.requires.3 _ _ c.requires.4 c.requires.5 c.requires.6 c.requires.7 (omega arith) _ _ c.jump_target-target-2.ensures c.in_default-reach-2.ensures)
 
 pub returns : goal.returns
-returns c = visits.branch_ends _ _ _ _ c.requires.0 _ c.requires.1 _ _ c.requires.2 c.requires.3 _ _ c.requires.4 c.requires.5 c.requires.6 c.requires.7 _ _ _ (omega arith) (worklist.is_marked_lem _ _ _ _ _ _ _ _ _ _ c.reach-2.result _ c.in-Queued-reach.is c.reach-2.ensures) _ _ _ _ c.jump_target-target-2.ensures (worklist.is_marked_lem _ _ _ _ _ _ _ _ _ _ c.reach-3.result _ c.in-Queued-reach-2.is c.reach-3.ensures)
+returns c = visits.branch_ends _ _ _ _ c.requires.0 _ c.requires.1 _ _ c.requires.2 c.requires.3 _ _ c.requires.4 c.requires.5 c.requires.6 c.requires.7 _ _ _ (omega arith) c.in-Some-reach.ensures _ _ _ _ c.jump_target-target-2.ensures c.in-Some-reach-2.ensures

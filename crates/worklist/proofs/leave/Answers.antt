@@ -13,76 +13,43 @@ pub bounds-queue-head : goal.bounds-queue-head
 bounds-queue-head c = omega (arith, returning.head_inside _ _ _ _ _ _ _ c.requires.0 _ refl)
 
 pub routine_of-routine-requires : goal.routine_of-routine-requires
-routine_of-routine-requires c = omega (arith, returning.record_low _ _ _ _ _ _ _ c.requires.0 _ c.wide-i.ensures)
+routine_of-routine-requires c = omega (arith, returning.record_low _ _ _ _ _ _ _ c.requires.0 _ c.from-i.ensures)
 
 pub overflow_sub-routine : goal.overflow_sub-routine
-overflow_sub-routine c = (visits.floor_asks _ _ _ _ c.requires.0.list _ (returning.here _ _ _ _ _ _ _ c.requires.0 _ c.wide-i.ensures) _ c.routine_of-routine.ensures).0
+overflow_sub-routine c = (visits.floor_asks _ _ _ _ c.requires.0.list _ (returning.here _ _ _ _ _ _ _ c.requires.0 _ c.from-i.ensures) _ c.routine_of-routine.ensures).0
 
 pub floor_of-requires : goal.floor_of-requires
-floor_of-requires c = ((visits.floor_asks _ _ _ _ c.requires.0.list _ (returning.here _ _ _ _ _ _ _ c.requires.0 _ c.wide-i.ensures) _ c.routine_of-routine.ensures).0, (visits.floor_asks _ _ _ _ c.requires.0.list _ (returning.here _ _ _ _ _ _ _ c.requires.0 _ c.wide-i.ensures) _ c.routine_of-routine.ensures).1)
-
-pub overflow_mul-i : goal.overflow_mul-i
-overflow_mul-i c = omega (arith, worklist.marked-inside _ _ _ _ c.requires.0.list _ (returning.here _ _ _ _ _ _ _ c.requires.0 _ c.wide-i.ensures), c.requires.0.list.most)
-
-pub overflow_add-i : goal.overflow_add-i
-overflow_add-i c = omega (arith, worklist.marked-inside _ _ _ _ c.requires.0.list _ (returning.here _ _ _ _ _ _ _ c.requires.0 _ c.wide-i.ensures), c.requires.0.list.most)
+floor_of-requires c = ((visits.floor_asks _ _ _ _ c.requires.0.list _ (returning.here _ _ _ _ _ _ _ c.requires.0 _ c.from-i.ensures) _ c.routine_of-routine.ensures).0, (visits.floor_asks _ _ _ _ c.requires.0.list _ (returning.here _ _ _ _ _ _ _ c.requires.0 _ c.from-i.ensures) _ c.routine_of-routine.ensures).1)
 
 pub bounds-sheet-i : goal.bounds-sheet-i
-bounds-sheet-i c = omega (arith, returning.record_low _ _ _ _ _ _ _ c.requires.0 _ c.wide-i.ensures)
-
-pub refuted-requires : goal.refuted-requires
-refuted-requires c = (worklist.marked-low _ _ _ _ c.requires.0.list _ (returning.here _ _ _ _ _ _ _ c.requires.0 _ c.wide-i.ensures), omega arith)
+bounds-sheet-i c = omega (arith, returning.record_low _ _ _ _ _ _ _ c.requires.0 _ c.from-i.ensures)
 
 pub returns-then-floor_of-sheet : goal.returns-then-floor_of-sheet
-returns-then-floor_of-sheet c = worklist.tells _ _ _ _ _ _ _ _ _ _ c.refuted.result c.refuted.ensures (returning.off_floor _ _ _ _ _ _ _ c.requires.0 _ c.wide-i.ensures c.requires.1 c.requires.2 _ c.routine_of-routine.ensures _ c.floor_of.ensures c.if-floor_of-sheet.true)
-
-pub overflow_mul-work : goal.overflow_mul-work
-overflow_mul-work c = omega (arith, worklist.marked-inside _ _ _ _ c.requires.0.list _ (returning.here _ _ _ _ _ _ _ c.requires.0 _ c.wide-i.ensures), c.requires.0.list.most)
-
-pub overflow_add-work : goal.overflow_add-work
-overflow_add-work c = omega (arith, worklist.marked-inside _ _ _ _ c.requires.0.list _ (returning.here _ _ _ _ _ _ _ c.requires.0 _ c.wide-i.ensures), c.requires.0.list.most)
+returns-then-floor_of-sheet c = worklist.tells _ _ _ _ _ _ c.new.ensures (returning.off_floor _ _ _ _ _ _ _ c.requires.0 _ c.from-i.ensures c.requires.1 c.requires.2 _ c.routine_of-routine.ensures _ c.floor_of.ensures c.if-floor_of-sheet.true)
 
 pub bounds-sheet-i-2 : goal.bounds-sheet-i-2
-bounds-sheet-i-2 c = omega (arith, returning.record_low _ _ _ _ _ _ _ c.requires.0 _ c.wide-i.ensures)
-
-pub offset_bounds-routines-entry : goal.offset_bounds-routines-entry
-offset_bounds-routines-entry c = omega (arith, returning.entry-inside _ _ _ _ _ _ _ c.requires.0 _ c.wide-i.ensures c.requires.1 c.requires.2 _ c.routine_of-routine.ensures _ c.floor_of.ensures c.if-floor_of-sheet.false _ c.wide-entry.ensures)
+bounds-sheet-i-2 c = omega (arith, returning.record_low _ _ _ _ _ _ _ c.requires.0 _ c.from-i.ensures)
 
 pub bounds-routines-entry : goal.bounds-routines-entry
-bounds-routines-entry c = omega (arith, returning.entry-inside _ _ _ _ _ _ _ c.requires.0 _ c.wide-i.ensures c.requires.1 c.requires.2 _ c.routine_of-routine.ensures _ c.floor_of.ensures c.if-floor_of-sheet.false _ c.wide-entry.ensures)
-
-pub overflow_mul-other : goal.overflow_mul-other
-overflow_mul-other c = omega (arith, returning.other-inside _ _ _ _ _ _ _ c.requires.0 _ c.wide-i.ensures c.requires.1 c.requires.2 _ c.routine_of-routine.ensures _ c.floor_of.ensures c.if-floor_of-sheet.false _ c.wide-entry.ensures c.if-known-ge-RETURNED.true _ c.wide-other.ensures, c.requires.0.list.most)
-
-pub overflow_add-other : goal.overflow_add-other
-overflow_add-other c = omega (arith, returning.other-inside _ _ _ _ _ _ _ c.requires.0 _ c.wide-i.ensures c.requires.1 c.requires.2 _ c.routine_of-routine.ensures _ c.floor_of.ensures c.if-floor_of-sheet.false _ c.wide-entry.ensures c.if-known-ge-RETURNED.true _ c.wide-other.ensures, c.requires.0.list.most)
+bounds-routines-entry c = omega (arith, returning.entry-inside _ _ _ _ _ _ _ c.requires.0 _ c.from-i.ensures c.requires.1 c.requires.2 _ c.routine_of-routine.ensures _ c.floor_of.ensures c.if-floor_of-sheet.false _ c.from-entry.ensures)
 
 pub bounds-sheet-other : goal.bounds-sheet-other
-bounds-sheet-other c = omega (arith, returning.other_record _ _ _ _ _ _ _ c.requires.0 _ c.wide-i.ensures c.requires.1 c.requires.2 _ c.routine_of-routine.ensures _ c.floor_of.ensures c.if-floor_of-sheet.false _ c.wide-entry.ensures c.if-known-ge-RETURNED.true _ c.wide-other.ensures)
+bounds-sheet-other c = omega (arith, returning.other_record _ _ _ _ _ _ _ c.requires.0 _ c.from-i.ensures c.requires.1 c.requires.2 _ c.routine_of-routine.ensures _ c.floor_of.ensures c.if-floor_of-sheet.false _ c.from-entry.ensures c.if-known-ge-RETURNED.true _ c.from-other.ensures)
 
 pub returns-then-sheet-other : goal.returns-then-sheet-other
-returns-then-sheet-other c = returning.known _ _ _ _ _ _ _ c.requires.0 _ c.wide-i.ensures c.requires.1 c.requires.2 _ c.routine_of-routine.ensures _ c.floor_of.ensures c.if-floor_of-sheet.false _ c.wide-entry.ensures c.if-known-ge-RETURNED.true _ c.wide-other.ensures c.if-sheet-other.true
+returns-then-sheet-other c = returning.known _ _ _ _ _ _ _ c.requires.0 _ c.from-i.ensures c.requires.1 c.requires.2 _ c.routine_of-routine.ensures _ c.floor_of.ensures c.if-floor_of-sheet.false _ c.from-entry.ensures c.if-known-ge-RETURNED.true _ c.from-other.ensures c.if-sheet-other.true
 
-pub refuted-requires-then-known-ge-RETURNED : goal.refuted-requires-then-known-ge-RETURNED
-refuted-requires-then-known-ge-RETURNED c = (worklist.marked-low _ _ _ _ c.requires.0.list _ (returning.here _ _ _ _ _ _ _ c.requires.0 _ c.wide-i.ensures), omega (arith, returning.other-inside _ _ _ _ _ _ _ c.requires.0 _ c.wide-i.ensures c.requires.1 c.requires.2 _ c.routine_of-routine.ensures _ c.floor_of.ensures c.if-floor_of-sheet.false _ c.wide-entry.ensures c.if-known-ge-RETURNED.true _ c.wide-other.ensures, c.requires.0.list.most))
+pub new-requires-then-known-ge-RETURNED : goal.new-requires-then-known-ge-RETURNED
+new-requires-then-known-ge-RETURNED c = let low = worklist.marked-low _ _ _ _ c.requires.0.list _ (returning.here _ _ _ _ _ _ _ c.requires.0 _ c.from-i.ensures) in (low, omega (arith, low, returning.other-inside _ _ _ _ _ _ _ c.requires.0 _ c.from-i.ensures c.requires.1 c.requires.2 _ c.routine_of-routine.ensures _ c.floor_of.ensures c.if-floor_of-sheet.false _ c.from-entry.ensures c.if-known-ge-RETURNED.true _ c.from-other.ensures, c.requires.0.list.most))
 
 pub returns-then-known-ge-RETURNED : goal.returns-then-known-ge-RETURNED
-returns-then-known-ge-RETURNED c = worklist.tells _ _ _ _ _ _ _ _ _ _ c.refuted-then-known-ge-RETURNED.result c.refuted-then-known-ge-RETURNED.ensures (returning.another _ _ _ _ _ _ _ c.requires.0 _ c.wide-i.ensures c.requires.1 c.requires.2 _ c.routine_of-routine.ensures _ c.floor_of.ensures c.if-floor_of-sheet.false _ c.wide-entry.ensures c.if-known-ge-RETURNED.true _ c.wide-other.ensures c.if-sheet-other.false)
+returns-then-known-ge-RETURNED c = worklist.tells _ _ _ _ _ _ c.new-then-known-ge-RETURNED.ensures (returning.another _ _ _ _ _ _ _ c.requires.0 _ c.from-i.ensures c.requires.1 c.requires.2 _ c.routine_of-routine.ensures _ c.floor_of.ensures c.if-floor_of-sheet.false _ c.from-entry.ensures c.if-known-ge-RETURNED.true _ c.from-other.ensures c.if-sheet-other.false)
 
 pub release-next-requires : goal.release-next-requires
-release-next-requires c = returning.release_asks _ _ _ _ _ _ _ c.requires.0 _ c.wide-i.ensures c.requires.1 c.requires.2 _ c.routine_of-routine.ensures _ c.floor_of.ensures c.if-floor_of-sheet.false _ c.wide-entry.ensures c.if-known-ge-RETURNED.false
-
-pub overflow_cast-routines : goal.overflow_cast-routines
-overflow_cast-routines c = omega (arith, worklist.marked-inside _ _ _ _ c.requires.0.list _ (returning.here _ _ _ _ _ _ _ c.requires.0 _ c.wide-i.ensures), c.requires.0.list.most)
-
-pub overflow_add-routines : goal.overflow_add-routines
-overflow_add-routines c = omega (arith, worklist.marked-inside _ _ _ _ c.requires.0.list _ (returning.here _ _ _ _ _ _ _ c.requires.0 _ c.wide-i.ensures), c.requires.0.list.most)
-
-pub offset_bounds-routines-entry-2 : goal.offset_bounds-routines-entry-2
-offset_bounds-routines-entry-2 c = omega (arith, returning.entry-inside _ _ _ _ _ _ _ c.requires.0 _ c.wide-i.ensures c.requires.1 c.requires.2 _ c.routine_of-routine.ensures _ c.floor_of.ensures c.if-floor_of-sheet.false _ c.wide-entry.ensures)
+release-next-requires c = returning.release_asks _ _ _ _ _ _ _ c.requires.0 _ c.from-i.ensures c.requires.1 c.requires.2 _ c.routine_of-routine.ensures _ c.floor_of.ensures c.if-floor_of-sheet.false _ c.from-entry.ensures c.if-known-ge-RETURNED.false
 
 pub bounds-routines-entry-2 : goal.bounds-routines-entry-2
-bounds-routines-entry-2 c = omega (arith, returning.entry-inside _ _ _ _ _ _ _ c.requires.0 _ c.wide-i.ensures c.requires.1 c.requires.2 _ c.routine_of-routine.ensures _ c.floor_of.ensures c.if-floor_of-sheet.false _ c.wide-entry.ensures)
+bounds-routines-entry-2 c = omega (arith, returning.entry-inside _ _ _ _ _ _ _ c.requires.0 _ c.from-i.ensures c.requires.1 c.requires.2 _ c.routine_of-routine.ensures _ c.floor_of.ensures c.if-floor_of-sheet.false _ c.from-entry.ensures)
 
 pub returns : goal.returns
-returns c = returning.first-visited _ _ _ _ _ _ _ c.requires.0 _ c.wide-i.ensures c.requires.1 c.requires.2 _ c.routine_of-routine.ensures _ c.floor_of.ensures c.if-floor_of-sheet.false _ c.wide-entry.ensures c.if-known-ge-RETURNED.false _ _ _ refl c.release-next.result c.release-next.ensures
+returns c = returning.first-visited _ _ _ _ _ _ _ c.requires.0 _ c.from-i.ensures c.requires.1 c.requires.2 _ c.routine_of-routine.ensures _ c.floor_of.ensures c.if-floor_of-sheet.false _ c.from-entry.ensures c.if-known-ge-RETURNED.false _ _ _ refl c.release-next.result c.release-next.ensures

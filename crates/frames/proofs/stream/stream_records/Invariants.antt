@@ -4,12 +4,9 @@ use Prim.Native.Nat.{◌<◌}
 use lib.ListN.{length, take}
 use Rattle.model.specs.Machine.{state}
 use Rattle.model.specs.Calls.{frame_size}
-use Rattle.frames.specs.Reading.{block_size, lines_size}
+use Rattle.frames.specs.Reading.{block_size}
 use Rattle.frames.proofs.Coming as coming
 use Rattle.frames.proofs.stream.stream_records.Given as goal
 
-abbrev pub invariant-loop-turns : goal.invariant-loop-turns
-invariant-loop-turns g l = (length l.memory ≡ length l.initial.memory) × (length l.devices ≡ length l.initial.devices) × (length l.work ≡ length l.initial.work) × (length l.ret ≡ length l.initial.ret) × (length l.block ≡ block_size) × (length l.lines ≡ lines_size) × (l.waiting < frame_size) × coming.SoFar (state l.initial.memory l.initial.devices l.initial.work l.initial.ret l.initial.machine) (state l.memory l.devices l.work l.ret l.machine) (take l.waiting l.block)
-
-abbrev pub decreases-loop-turns : goal.decreases-loop-turns
-decreases-loop-turns g l = l.turns
+abbrev pub invariant-loop-turn : goal.invariant-loop-turn
+invariant-loop-turn g l = (length l.memory ≡ length l.initial.memory) × (length l.devices ≡ length l.initial.devices) × (length l.work ≡ length l.initial.work) × (length l.ret ≡ length l.initial.ret) × (length l.block ≡ block_size) × (l.waiting < frame_size) × coming.SoFar (state l.initial.memory l.initial.devices l.initial.work l.initial.ret l.initial.machine) (state l.memory l.devices l.work l.ret l.machine) (take l.waiting l.block)

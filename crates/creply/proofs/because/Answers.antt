@@ -1,6 +1,0 @@
--- `creply::because` meets its contract. Assumes nothing.
-use mathlib.Core.Path.{refl}
-use Rattle.creply.proofs.because.Goals as goal
-
-pub returns : goal.returns
-returns c = refl

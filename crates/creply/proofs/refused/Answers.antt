@@ -1,6 +1,0 @@
--- `creply::refused` meets its contract. Assumes nothing.
-use mathlib.Core.Path.{refl}
-use Rattle.creply.proofs.refused.Goals as goal
-
-pub returns : goal.returns
-returns c = refl

@@ -1,8 +1,0 @@
--- `stack::write` meets its contract. Assumes nothing.
-use Rattle.stack.proofs.write.Goals as goal
-
-pub returns-then-wide : goal.returns-then-wide
-returns-then-wide c = rw c.if-wide.true
-
-pub returns-else-wide : goal.returns-else-wide
-returns-else-wide c = rw c.if-wide.false
