@@ -18,11 +18,12 @@ use model::{Reason, Refusal, START};
 use reasons::reason_of;
 use rules::{below_floor, depth_by_table, forbidden, lacks};
 use table::{Column, Stack, Table};
+pub use worklist::SHEET_RECORD;
 use worklist::{
-    Fault, JSI, RETURN, Rule, SHEET_RECORD, call, floor_of, follow, leave, mark, routine_of,
+    Fault, JSI, PLACES, Places, RETURN, Rule, call, floor_of, follow, leave, mark, routine_of,
 };
 
-// "above 4,096 bytes" a program is not admitted.
+// "above 4,096 bytes" a program is not admitted. A number beside `PLACES`, so that a limit above the room of the arrays is refused by the check.
 const ADMIT_MOST: usize = 4096;
 
 // ---- the sheet
@@ -111,7 +112,7 @@ fn visit(
     table: &Table,
     program: &[u8],
     sheet: &mut [u8],
-    queue: &mut [u16; 4096],
+    queue: &mut Places,
     tail: usize,
     i: usize,
 ) -> Result<usize, Fault>
@@ -157,7 +158,7 @@ fn walk(
     table: &Table,
     program: &[u8],
     sheet: &mut [u8],
-    queue: &mut [u16; 4096],
+    queue: &mut Places,
     first: usize,
     listed: usize,
 ) -> Result<Stop, Fault>
@@ -184,11 +185,11 @@ fn visit_routine(
     table: &Table,
     program: &[u8],
     sheet: &mut [u8],
-    queue: &mut [u16; 4096],
+    queue: &mut Places,
     tail: usize,
     head: usize,
-    routines: &mut [u16; 4096],
-    before: &mut [u16; 4096],
+    routines: &mut Places,
+    before: &mut Places,
 ) -> Result<usize, Fault>
     requires { Visit program.now sheet.old queue.old tail head routines.old before.old
         × OfRoutines (get_or program.now (get_or queue.old head 0) 0) }
@@ -219,7 +220,7 @@ fn explore_routines(
     table: &Table,
     program: &[u8],
     sheet: &mut [u8],
-    queue: &mut [u16; 4096],
+    queue: &mut Places,
     first: usize,
     listed: usize,
 ) -> Result<usize, Fault>
@@ -227,8 +228,8 @@ fn explore_routines(
         × Met program.now queue.old first listed }
     ensures { Explored program.now sheet.new result }
 {
-    let mut routines = [0u16; 4096];
-    let mut before = [0u16; 4096];
+    let mut routines: Places = [0; PLACES];
+    let mut before: Places = [0; PLACES];
     let mut head = first;
     let mut tail = listed;
     while head < tail {
@@ -258,7 +259,7 @@ fn explore(program: &[u8], sheet: &mut [u8]) -> Result<usize, Fault>
     ensures { Explored program.now sheet.new result }
 {
     let table = Table::new();
-    let mut queue = [0u16; 4096];
+    let mut queue: Places = [0; PLACES];
     unmark(program, sheet);
     mark(sheet, 0, 0, 0, START);
     let Stop { head, tail } = walk(&table, program, sheet, &mut queue, 0, 1)?;

@@ -3,38 +3,14 @@ use mathlib.Core.Path.{◌≡◌, refl, sym, ap, ◌∙◌}
 use mathlib.Core.List.{List, [], ◌++◌, append_assoc, append-nil}
 use Prim.Native.Nat.{ℕ, zero, suc, ◌+◌, ◌-◌, ◌*◌, ◌%◌, ◌≤◌, ◌<◌}
 use native.Mathlib.Nat.{add-zero, add-suc}
-use native.Mathlib.Numerals.{add-one}
 use native.Mathlib.Omega.{arith}
 use lib.ListN.{length, take, drop, length-drop, length-append, take-append-drop}
-use lib.Seq.{length-take-le, take-add, take-append-le, drop-append-le, drop-append-add, drop_at}
+use lib.Seq.{length-take-le, take-add, take-append-le, drop-append-le, drop-append-add, drop_at, take_all, paste, take-paste}
 use Rattle.model.specs.Machine.{State}
 use Rattle.model.specs.Run.{Reply}
 use Rattle.model.specs.Calls.{frame_size, frame_call}
 use Rattle.text.specs.Lines.{line}
 use Rattle.blocks.specs.Frames.{frame_budget, whole_records, frame_at, machine_after, first_lines, judged, behind, further}
-
--- the part of the records that is lent
-lent_is : (records : List ℕ) (k : ℕ)
-    → take ((frame_size * k + frame_size) - frame_size * k) (drop (frame_size * k) records) ≡ frame_at records k
-lent_is records k =
-    let e : (frame_size * k + frame_size) - frame_size * k ≡ frame_size = omega arith in
-    ap (λ (n : ℕ). take n (drop (frame_size * k) records)) e
-
-module _ (records : List ℕ) (s now : State) (k : ℕ) (r : Reply) (before : now ≡ machine_after records s k)
-    (call : r ≡ frame_call (take ((frame_size * k + frame_size) - frame_size * k) (drop (frame_size * k) records)) frame_budget now) where
-  call_is : r ≡ frame_call (frame_at records k) frame_budget (machine_after records s k)
-  call_is = call ∙ rw (lent_is records k, before)
-
-  pub state-more : (t : State) → r.state ≡ t → t ≡ machine_after records s (k + 1)
-  unfolding machine_after
-  state-more t e = rw add-one (sym e ∙ ap (λ (q : Reply). q.state) call_is)
-
-  pub lines_more : (before x y : List ℕ) → x ≡ before ++ first_lines records s k → y ≡ x ++ line r → y ≡ before ++ first_lines records s (k + 1)
-  unfolding first_lines
-  lines_more before x y hx hy =
-      rw add-one
-      (hy ∙ rw hx (ap (λ (q : Reply). (before ++ first_lines records s k) ++ line q) call_is)
-      ∙ append_assoc before (first_lines records s k) _)
 
 -- ---- records that come in two blocks, the first of k whole records: as if they came in one
 
@@ -92,6 +68,57 @@ module _ (a b : List ℕ) (s : State) (k : ℕ) (whole : length a ≡ frame_size
   unfolding judged
   judged_parts = rw (all-records, machine_parts (whole_records b), lines_parts (whole_records b), waits)
 
+-- ---- one record after the other: what the records that are left come to, behind what there is, is what all come to
+
+module _ (bytes record-bytes left : List ℕ) (now : State) (r : Reply) (split : bytes ≡ record-bytes ++ left)
+    (long : length record-bytes ≡ frame_size) (call : r ≡ frame_call record-bytes frame_budget now) where
+  whole-one : length record-bytes ≡ frame_size * 1
+  whole-one = omega (arith, long)
+
+  first-one : frame_call (frame_at record-bytes 0) frame_budget now ≡ r
+  first-one = same_call (take_all frame_size record-bytes (omega (arith, long))) refl ∙ sym call
+
+  pub count-left : whole_records bytes ≡ 1 + whole_records left
+  count-left = rw split (all-records record-bytes left now 1 whole-one)
+
+  machine-left : machine_after bytes now (whole_records bytes) ≡ machine_after left r.state (whole_records left)
+  unfolding machine_after
+  machine-left =
+      rw (count-left, split)
+      (machine_parts record-bytes left now 1 whole-one (whole_records left)
+      ∙ ap (λ (q : Reply). machine_after left q.state (whole_records left)) first-one)
+
+  lines-left : (x : List ℕ) → x ++ first_lines bytes now (whole_records bytes) ≡ (x ++ line r) ++ first_lines left r.state (whole_records left)
+  unfolding machine_after first_lines
+  lines-left x =
+      rw (count-left, split)
+      (ap (λ (y : List ℕ). x ++ y)
+      (lines_parts record-bytes left now 1 whole-one (whole_records left)
+      ∙ ap (λ (q : Reply). line q ++ first_lines left q.state (whole_records left)) first-one)
+      ∙ sym (append_assoc x (line r) _))
+
+  pub machine_on : (t m : State) → r.state ≡ t → machine_after bytes now (whole_records bytes) ≡ m → machine_after left t (whole_records left) ≡ m
+  machine_on t m e h = ap (λ (s : State). machine_after left s (whole_records left)) (sym e) ∙ sym machine-left ∙ h
+
+  pub lines_on : (t : State) (x y z : List ℕ) → r.state ≡ t → y ≡ x ++ line r → x ++ first_lines bytes now (whole_records bytes) ≡ z
+      → y ++ first_lines left t (whole_records left) ≡ z
+  lines_on t x y z e f h =
+      ap (λ (w : List ℕ). w ++ first_lines left t (whole_records left)) f
+      ∙ ap (λ (s : State). (x ++ line r) ++ first_lines left s (whole_records left)) (sym e) ∙ sym (lines-left x) ∙ h
+
+-- less than a record is left
+module _ (part : List ℕ) (short : length part < frame_size) where
+  none-whole : whole_records part ≡ 0
+  none-whole = omega arith
+
+  pub machine-end : (s : State) → machine_after part s (whole_records part) ≡ s
+  unfolding machine_after
+  machine-end s = rw none-whole refl
+
+  pub lines-end : (s : State) (x : List ℕ) → x ++ first_lines part s (whole_records part) ≡ x
+  unfolding first_lines
+  lines-end s x = rw none-whole (append-nil x)
+
 -- ---- bytes cut anywhere: what comes first is judged, the bytes of a part record wait, and what comes then is judged behind them
 
 module _ (a b : List ℕ) (s : State) where
@@ -133,9 +160,16 @@ all_wait part s h = let e : whole_records part ≡ 0 = omega arith in rw e
 
 -- ---- a block
 
+-- bytes that are copied within a block to its start
+to_start : (from n : ℕ) (block moved : List ℕ) → from + n ≤ length block → moved ≡ paste block 0 (drop from block) n
+    → take n moved ≡ take n (drop from block)
+to_start from n block moved l h =
+    let same : n ≡ 0 + n = omega arith in
+    rw h (ap (λ (k : ℕ). take k (paste block 0 (drop from block) n)) same ∙ take-paste block 0 (drop from block) n (omega arith) (rw length-drop (omega arith)))
+
 -- the bytes after the last whole record of the first n
 pub waiting_is : (n w : ℕ) (block moved : List ℕ) → n ≤ length block → w ≡ n % frame_size
-    → take (n - (n - w)) moved ≡ take (n - (n - w)) (drop (n - w) block) → take w moved ≡ drop (frame_size * whole_records (take n block)) (take n block)
+    → moved ≡ paste block 0 (drop (n - w) block) (n - (n - w)) → take w moved ≡ drop (frame_size * whole_records (take n block)) (take n block)
 waiting_is n w block moved l e h =
     let m : n - (n - w) ≡ w = omega arith in
     let f : length (take n block) ≡ n = length-take-le n block l in
@@ -143,10 +177,10 @@ waiting_is n w block moved l e h =
     let p : length (take (n - w) block) ≡ n - w = length-take-le (n - w) block (omega arith) in
     let q : n - w + w ≡ n = omega arith in
     let t : take n block ≡ take (n - w) block ++ take w (drop (n - w) block) = rw q at (take-add (n - w) w block) in
-    rw (g, t, drop_at (take (n - w) block) (take w (drop (n - w) block)) (n - w) p) (rw m at h)
+    rw (g, t, drop_at (take (n - w) block) (take w (drop (n - w) block)) (n - w) p) (to_start (n - w) w block moved (omega arith) (rw m at h))
 
 pub worked : (n w : ℕ) (block moved before out : List ℕ) (s t : State) → n ≤ length block → w ≡ n % frame_size
-    → take (n - (n - w)) moved ≡ take (n - (n - w)) (drop (n - w) block)
+    → moved ≡ paste block 0 (drop (n - w) block) (n - (n - w))
     → t ≡ machine_after (take n block) s (whole_records (take n block)) → out ≡ before ++ first_lines (take n block) s (whole_records (take n block))
     → record { machine = t; lines = out; waiting = take w moved } ≡ behind before (judged (take n block) s)
 unfolding judged

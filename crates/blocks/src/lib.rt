@@ -2,7 +2,7 @@
 // the records of a block.
 #![tactic(auto)]
 
-ghost use Rattle.std.specs.Prelude.{◌≡◌, ◌++◌, ◌+◌, ◌*◌, ◌/◌, ◌-◌, ◌≤◌, ◌<◌, length, take, drop};
+ghost use Rattle.std.specs.Prelude.{◌≡◌, ◌++◌, ◌+◌, ◌*◌, ◌/◌, ◌≤◌, ◌<◌, length, take};
 ghost use Rattle.arrayvec.specs.ArrayVec.{array_vec_len};
 ghost use Rattle.model.specs.Machine.{State, state};
 ghost use Rattle.model.specs.Calls.{frame_size, install_call};
@@ -12,6 +12,7 @@ ghost use Rattle.model.specs.Replies.{of_frame};
 ghost use Rattle.text.specs.Lines.{line, line_most};
 ghost use Rattle.blocks.specs.Frames.{whole_records, machine_after, first_lines, judged, behind};
 
+use admission::SHEET_RECORD;
 use arrayvec::ArrayVec;
 use model::{FrameEnd, Machine, Refused};
 use text::{put_line, put_refused};
@@ -21,9 +22,6 @@ const BUDGET: u32 = 10000;
 
 // C-16: "the record becomes 128 bytes"
 const RECORD: usize = 128;
-
-// C-19: "The sheet record becomes 8 bytes"
-const SHEET_RECORD: usize = 8;
 
 // The machine record after a block, and how many bytes wait at the start of the block.
 #[derive(Clone, Copy)]
@@ -89,26 +87,12 @@ fn frames<const N: usize>(
         ++ first_lines records.now (state memory.old devices.old work.old ret.old m) (whole_records records.now) }
 {
     let mut machine = m;
-    for k in 0..records.len() / RECORD {
-        let start = RECORD * k;
-        let end = start + RECORD;
-        let record = &records[start..end];
+    for record in records.chunks_exact(RECORD) {
         let reply = machine::frame(machine, memory, devices, work, ret, record, BUDGET);
         machine = record_of(reply);
         put_line(out, reply);
     }
     machine
-}
-
-// The bytes from `start` to `end` move to the start of the block.
-fn move_to_front(block: &mut [u8], start: usize, end: usize)
-    requires { (start ≤ end) × (end ≤ length block.old) }
-    ensures { take (end - start) block.new ≡ take (end - start) (drop start block.old) }
-{
-    let n = end - start;
-    for i in 0..n {
-        block[i] = block[start + i];
-    }
 }
 
 // The first n bytes of the block: frame calls for its whole records, their lines behind what is in `out`, and the bytes after the
@@ -134,6 +118,6 @@ pub fn work_off<const N: usize>(
 {
     let machine = frames(m, memory, devices, work, ret, &block[..n], out);
     let waiting = n % RECORD;
-    move_to_front(block, n - waiting, n);
+    block.copy_within(n - waiting..n, 0);
     Worked { machine, waiting }
 }

@@ -8,11 +8,9 @@ ghost use Rattle.model.specs.Calls.{number_of, admit_call};
 ghost use Rattle.model.specs.Refusals.{refused_by};
 ghost use Rattle.sheet.specs.Output.{written, output};
 
-use admission::admit;
+use admission::{SHEET_RECORD, admit};
 use input::{has_arguments, read_whole, say_refused, write_output};
 use model::Refusal;
-
-const RECORD: usize = 8;
 
 // The program's sheet, at the start of `sheet`, and how many bytes of it are to be written.
 #[tactic(auto, unfolding(crate::specs::Output::output_of))]
@@ -23,7 +21,7 @@ fn make_sheet(program: &[u8], sheet: &mut [u8]) -> Result<usize, Refusal>
     ensures refused_number { refused_by result
         ≡ number_of (admit_call program.now (take (sheet_record * length program.now) sheet.old)).answer }
 {
-    let n = RECORD * program.len();
+    let n = SHEET_RECORD * program.len();
     admit(program, &mut sheet[..n])?;
     Ok(n)
 }

@@ -21,6 +21,8 @@ pub fn put<const N: usize>(out: &mut ArrayVec<u8, N>, text: &[u8])
     let _fits = out.try_extend_from_slice(text);
 }
 
+// Here and in `put_number` and `put_hex` the digits are taken by hand: the check alone finds that they are those of the definition. A library has
+// its own definition of a number's digits, and laws that it comes to ours would be longer than the three.
 #[tactic(auto, unfolding(crate::specs::Lines::decimal))]
 pub fn put_decimal<const N: usize>(out: &mut ArrayVec<u8, N>, number: u8)
     requires { array_vec_len out.old + 3 ≤ N }

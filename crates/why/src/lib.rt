@@ -49,7 +49,8 @@ fn last_of(program: &[u8]) -> u16
 }
 
 // ---- parts of sentences. Each function from here on puts text behind what is in `out`.
-// Bytes are widened by `as`: with `u16::from` six of the proofs did not close.
+// Bytes are widened by `as`: with `u16::from` six of the proofs did not close. A stack is "working" or "return": 7 letters at most, for which
+// `part_most` has room.
 
 // " takes 1 byte of the working stack, which holds 0".
 fn put_takes<const N: usize>(out: &mut ArrayVec<u8, N>, bytes: u8, stack: &[u8], holds: u8)

@@ -10,7 +10,7 @@ use text::{put, put_decimal};
 
 // Each function that puts text puts it behind what is in `out`.
 
-// A number in decimal digits, with no 0 in front.
+// A number in decimal digits, with no 0 in front; by hand, as `text::put_decimal`.
 #[tactic(auto, unfolding(crate::specs::Words::digits, text::specs::Lines::decimal))]
 fn put_number<const N: usize>(out: &mut ArrayVec<u8, N>, value: u16)
     requires { array_vec_len out.old + 6 ≤ N }
@@ -73,7 +73,7 @@ fn hex_digit(value: u16) -> u8
     DIGITS[(value % 16) as usize]
 }
 
-// An address, in four hexadecimal digits.
+// An address, in four hexadecimal digits, by hand too.
 #[tactic(auto, unfolding(crate::specs::Words::hex))]
 fn put_hex<const N: usize>(out: &mut ArrayVec<u8, N>, address: u16)
     requires { array_vec_len out.old + 4 ≤ N }

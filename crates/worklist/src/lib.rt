@@ -56,7 +56,11 @@ pub enum Rule {
 // There is room for 16 rules, and for two places of a program.
 const RULES: usize = 16;
 
-const PLACES: usize = 4096;
+// A program "above 4,096 bytes" is not admitted.
+pub const PLACES: usize = 4096;
+
+// A number for each place of a program, or for each place of the queue, which lists some of them.
+pub type Places = [u16; PLACES];
 
 // A rule that fails, the place of the program where it fails, and the place of a return of which it speaks too, or 0. They are one number,
 // as the length of the queue is, so that the loop of the visits has one register for either.
@@ -165,7 +169,7 @@ fn agrees(sheet: &[u8], i: usize, work: u8, ret: u8, routine: u16) -> bool
 fn reach(
     program: &[u8],
     sheet: &mut [u8],
-    queue: &mut [u16; 4096],
+    queue: &mut Places,
     tail: usize,
     at: u16,
     work: u8,
@@ -195,7 +199,7 @@ fn reach(
 fn come_back(
     program: &[u8],
     sheet: &mut [u8],
-    queue: &mut [u16; 4096],
+    queue: &mut Places,
     tail: usize,
     i: usize,
     from: usize,
@@ -221,10 +225,10 @@ fn come_back(
 fn release(
     program: &[u8],
     sheet: &mut [u8],
-    queue: &mut [u16; 4096],
+    queue: &mut Places,
     tail: usize,
-    routines: &[u16; 4096],
-    before: &[u16; 4096],
+    routines: &Places,
+    before: &Places,
     entry: usize,
     from: usize,
     work: u8,
@@ -249,11 +253,11 @@ fn release(
 pub fn leave(
     program: &[u8],
     sheet: &mut [u8],
-    queue: &mut [u16; 4096],
+    queue: &mut Places,
     tail: usize,
     head: usize,
-    routines: &mut [u16; 4096],
-    before: &[u16; 4096],
+    routines: &mut Places,
+    before: &Places,
 ) -> Result<usize, Fault>
     requires { Visit program.now sheet.old queue.old tail head routines.old before.now
         × (get_or program.now (get_or queue.old head 0) 0 ≡ 0x6C)
@@ -289,11 +293,11 @@ pub fn leave(
 pub fn call(
     program: &[u8],
     sheet: &mut [u8],
-    queue: &mut [u16; 4096],
+    queue: &mut Places,
     tail: usize,
     head: usize,
-    routines: &mut [u16; 4096],
-    before: &mut [u16; 4096],
+    routines: &mut Places,
+    before: &mut Places,
     i: usize,
     work: u8,
     ret: u8,
@@ -324,7 +328,7 @@ pub fn call(
 pub fn follow(
     program: &[u8],
     sheet: &mut [u8],
-    queue: &mut [u16; 4096],
+    queue: &mut Places,
     tail: usize,
     i: usize,
     after: usize,

@@ -17,6 +17,6 @@ pub returns : goal.returns
 returns g c =
     record {
       block_after =
-          blocks.worked c.args.n (c.args.n % frame_size) c.args.block.now _ _ _ _ _ (omega arith) (omega arith) c.move_to_front.ensures c.frames-machine.ensures.machine_left c.frames-machine.ensures.lines_put;
+          blocks.worked c.args.n (c.args.n % frame_size) c.args.block.now _ _ _ _ _ (omega arith) (omega arith) c.copy_within.ensures.after c.frames-machine.ensures.machine_left c.frames-machine.ensures.lines_put;
       bounds = (omega arith, omega arith);
     }
