@@ -23,8 +23,9 @@ pub record Left (size room : ℕ) (rest before output : List ℕ) (put : ℕ) : 
   pub fits : put + length rest / size * room ≤ length output
   pub stays : drop put output ≡ drop put before
 
-pub left_start : (size room : ℕ) (file before : List ℕ) → length file / size * room ≤ length before → Left size room file before before 0
-left_start size room file before h = record { long = refl; fits = omega (arith, h); stays = refl }
+-- before the first record
+pub left_start : (size room put : ℕ) (file before : List ℕ) → length file / size * room ≤ length before → put ≡ 0 → Left size room file before before put
+left_start size room put file before h z = record { long = refl; fits = omega (arith, h, z); stays = refl }
 
 module _ (size room : ℕ) (rest before output : List ℕ) (put : ℕ) (m : Left size room rest before output put) where
   inside : put ≤ length output

@@ -8,7 +8,7 @@ pub loop-entry-init : goal.loop-entry-init
 loop-entry-init g c =
     let e = c.chunks_exact-entry-items.ensures in
     let i = c.into_iter-entry-iterator.ensures.into_iter_gives in
-    (rw (i, e.size) c.requires.sized, tt, rw (i, e.size), rw (i, e.rest) (sheets.left_start _ _ _ _ c.requires.fits), λ changed puts. rw (i, e.rest))
+    (rw (i, e.size) c.requires.sized, tt, rw (i, e.size), rw (i, e.rest) (sheets.left_start _ _ _ _ _ c.requires.fits (omega arith)), λ changed puts. rw (i, e.rest))
 
 pub overflow_add-next : goal.overflow_add-next
 overflow_add-next g c =
