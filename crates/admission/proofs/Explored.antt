@@ -1,7 +1,7 @@
 -- The worklist from its first address to its last: when it ends, the sheet is the smallest one. Assumes nothing.
 use mathlib.Core.Path.{◌≡◌, refl, sym, ap, ◌∙◌}
 use mathlib.Core.Logic.{inl}
-use mathlib.Core.List.{List}
+use mathlib.Core.List.{List, [], ◌∷◌}
 use Prim.Native.Nat.{ℕ, ◌+◌, ◌-◌, ◌≤◌, ◌<◌}
 use native.Mathlib.Decide.{ℕ_discrete}
 use native.Mathlib.Omega.{arith}
@@ -14,19 +14,19 @@ use Rattle.model.specs.Admission.Way.{begin}
 use Rattle.model.proofs.Reached.{begun, begun_first, begun_cases, along, assigned_closed}
 use Rattle.model.proofs.Rules.{marked-at, successors_by}
 use Rattle.model.proofs.Sheet.{length-sheet, mark_in_lem, record_is}
-use Rattle.worklist.specs.Worklist.{Marks, Obeyed, Listed, Extended, placed, Calls, HasReturn, Waiting, Visit, Visited}
-use Rattle.worklist.proofs.Sheets.{with_mark, sheet-set}
+use Rattle.worklist.specs.Worklist.{with_mark, Marks, Obeyed, Listed, Extended, placed, Calls, HasReturn, Waiting, Visit, Visited}
+use Rattle.worklist.proofs.Sheets.{sheet-set}
 use Rattle.worklist.proofs.Returns.{other-visited}
 use Rattle.worklist.proofs.Waits.{same_return}
 use Rattle.std.specs.Prelude.{Ok}
 use Rattle.admission.specs.Explored.{OfRoutines, Going, Walked}
 use Rattle.admission.proofs.Blank.{blank, zero-at}
-use Rattle.worklist.proofs.Worklist.{same_parts, place_mark, marks_are, goes_on_lem, queue_most, grown-led, grown-floor}
+use Rattle.worklist.proofs.Listed.{same_parts, place_mark, marks_are, goes_on_lem, grown-led, grown-floor}
 
 -- ---- the first address
 
 module _ (program sheet queue : List ℕ) (some : 1 ≤ length program) (most : length program ≤ admit_most)
-    (sheets : sheet ≡ with_mark (blank program) 0 0 0 start) (queues : queue ≡ replicate admit_most 0) where
+    (sheets : sheet ≡ with_mark (blank program) 0 0 0 start) (queues : queue ≡ 0 ∷ []) where
   first : List Mark
   first = begun (length program)
 
@@ -73,35 +73,34 @@ module _ (program sheet queue : List ℕ) (some : 1 ≤ length program) (most : 
         befores = λ k q h. absurd (omega arith);
       }
 
-  pub begins : Going program sheet queue 0 1 (replicate admit_most 0) (replicate admit_most 0)
+  pub begins : Going program sheet queue 0 (replicate admit_most 0) (replicate admit_most 0)
   unfolding first
   begins =
       record {
         list = record {
           most = most;
-          spaces = rw queues (length-replicate {A = ℕ} admit_most 0);
           marks = first;
           size = size;
           written = wrote;
-          counted = sym (begun_first (length program) (omega arith)).1;
+          counted = ap length queues ∙ sym (begun_first (length program) (omega arith)).1;
           first = first_mark;
           ways = λ at w r q e. let o = only at w r q e in rw (o.0, ← o.1, ← o.2, ← o.3) (begin, tt);
           rooted = λ at w r q e. let o = only at w r q e in rw (← o.2, ← o.3) record { led = inl refl; work = 0; floor = 0; entered = first_mark; low = omega arith };
-          listed = λ k h. let z : k ≡ 0 = omega arith in (0, 0, start, rw (z, zeroth) first_mark);
-          covers = λ at w r q e. (0, omega arith, (only at w r q e).0 ∙ sym zeroth);
+          listed = λ k h. let z : k ≡ 0 = omega (arith, ap length queues) in (0, 0, start, rw (z, zeroth) first_mark);
+          covers = λ at w r q e. (0, omega (arith, ap length queues), (only at w r q e).0 ∙ sym zeroth);
         };
         visited = λ k h. absurd (omega arith);
         waiting = waits;
         low = omega arith;
       }
 
-  pub begins_list : Listed program sheet queue 1
+  pub begins_list : Listed program sheet queue
   begins_list = begins.list
 
 -- ---- the next address
 
 -- what obeys the rules obeys them with more marks
-module _ (program sheet queue : List ℕ) (tail : ℕ) (list : Listed program sheet queue tail) (after : List ℕ)
+module _ (program sheet queue : List ℕ) (list : Listed program sheet queue) (after : List ℕ)
     (grown : (at w r q : ℕ) → mark_in sheet at ≡ marked w r q → mark_in after at ≡ marked w r q) where
   still_on : (at w r q : ℕ) → Every (GoesOn program (mark_in sheet)) (successors program at w r q) → Every (GoesOn program (mark_in after)) (successors program at w r q)
   still_on at w r q =
@@ -134,15 +133,15 @@ module _ (program sheet queue : List ℕ) (tail : ℕ) (list : Listed program sh
         inner = x.inner;
       }
 
-pub going_visit : (program sheet queue : List ℕ) (head tail : ℕ) (routines before : List ℕ)
-    → Going program sheet queue head tail routines before → head < tail → Visit program sheet queue tail head routines before
-going_visit program sheet queue head tail routines before g h = record { list = g.list; waiting = g.waiting; low = h }
+pub going_visit : (program sheet queue : List ℕ) (head : ℕ) (routines before : List ℕ)
+    → Going program sheet queue head routines before → head < length queue → Visit program sheet queue head routines before
+going_visit program sheet queue head routines before g h = record { list = g.list; waiting = g.waiting; low = h }
 
-pub next : (program sheet queue : List ℕ) (head tail : ℕ) (routines before : List ℕ) → Going program sheet queue head tail routines before
-    → head < tail → (sheet₁ queue₁ : List ℕ) (tail₁ : ℕ) (routines₁ before₁ : List ℕ)
-    → Extended program sheet queue tail sheet₁ queue₁ tail₁ × Visited program sheet₁ queue₁ head (placed queue head) routines₁ before₁
-    → Going program sheet₁ queue₁ (head + 1) tail₁ routines₁ before₁
-next program sheet queue head tail routines before g h sheet₁ queue₁ tail₁ routines₁ before₁ o =
+pub next : (program sheet queue : List ℕ) (head : ℕ) (routines before : List ℕ) → Going program sheet queue head routines before
+    → head < length queue → (sheet₁ queue₁ : List ℕ) (routines₁ before₁ : List ℕ)
+    → Extended program sheet queue sheet₁ queue₁ × Visited program sheet₁ queue₁ head (placed queue head) routines₁ before₁
+    → Going program sheet₁ queue₁ (head + 1) routines₁ before₁
+next program sheet queue head routines before g h sheet₁ queue₁ routines₁ before₁ o =
     record {
       list = o.0.list;
       visited = λ k l.
@@ -150,7 +149,7 @@ next program sheet queue head tail routines before g h sheet₁ queue₁ tail₁
           (elim (ℕ_discrete k head) [
             | yes e ↦ rw e o.1.0
             | no e ↦
-                still_obeyed program sheet queue tail g.list sheet₁ o.0.grown (placed queue k) (g.list.listed k (omega arith))
+                still_obeyed program sheet queue g.list sheet₁ o.0.grown (placed queue k) (g.list.listed k (omega arith))
                 (g.visited k (omega arith))
           ]);
       waiting = o.1.1;
@@ -159,71 +158,64 @@ next program sheet queue head tail routines before g h sheet₁ queue₁ tail₁
 
 -- ---- a walk
 
--- from place `first` on, with `listed` addresses in the queue, to place `head`
-pub record Walking (program sheet queue : List ℕ) (first listed : ℕ) (sheet₁ queue₁ : List ℕ) (head tail : ℕ) : Type 0 where
-  pub list : Listed program sheet₁ queue₁ tail
+-- from place `first` on to place `head`
+pub record Walking (program sheet queue : List ℕ) (first : ℕ) (sheet₁ queue₁ : List ℕ) (head : ℕ) : Type 0 where
+  pub list : Listed program sheet₁ queue₁
   pub low : first ≤ head
-  pub high : head ≤ tail
-  pub went : (routines before : List ℕ) → Going program sheet queue first listed routines before
-      → Going program sheet₁ queue₁ head tail routines before
+  pub high : head ≤ length queue₁
+  pub went : (routines before : List ℕ) → Going program sheet queue first routines before → Going program sheet₁ queue₁ head routines before
 
-pub walk_starts : (program sheet queue : List ℕ) (first listed : ℕ) → Listed program sheet queue listed → first ≤ listed
-    → Walking program sheet queue first listed sheet queue first listed
-walk_starts program sheet queue first listed list h =
+pub walk_starts : (program sheet queue : List ℕ) (first : ℕ) → Listed program sheet queue → first ≤ length queue
+    → Walking program sheet queue first sheet queue first
+walk_starts program sheet queue first list h =
     record { list = list; low = omega arith; high = h; went = λ routines before g. g }
 
-module _ (program sheet queue : List ℕ) (first listed : ℕ) (sheet₁ queue₁ : List ℕ) (head tail : ℕ)
-    (walk : Walking program sheet queue first listed sheet₁ queue₁ head tail) (h : head < tail) where
-  pub walk_inside : head < admit_most
-  walk_inside = omega (arith, queue_most program sheet₁ queue₁ tail walk.list, walk.list.most)
-
+module _ (program sheet queue : List ℕ) (first : ℕ) (sheet₁ queue₁ : List ℕ) (head : ℕ)
+    (walk : Walking program sheet queue first sheet₁ queue₁ head) (h : head < length queue₁) where
   module _ (i : ℕ) (is-i : i ≡ get_or queue₁ head 0) where
     pub walk_here : Marks sheet₁ (start + i)
     walk_here = rw is-i (walk.list.listed head h)
 
-    pub walk_met : OfRoutines (get_or program i 0)
-        → Walked program sheet queue first listed sheet₁ queue₁ (Ok (record { head = head; tail = tail }))
+    pub walk_met : OfRoutines (get_or program i 0) → Walked program sheet queue first sheet₁ queue₁ (Ok head)
     walk_met o = (λ l. rw is-i at o, walk.low, walk.went)
 
-    pub walk_next : (get_or program i 0 ≡ 0x60 → ⊥) → (get_or program i 0 ≡ 0x6C → ⊥) → (sheet₂ queue₂ : List ℕ) (tail₂ : ℕ)
-        → Extended program sheet₁ queue₁ tail sheet₂ queue₂ tail₂ × Obeyed program sheet₂ (start + i)
-        → Walking program sheet queue first listed sheet₂ queue₂ (head + 1) tail₂
-    walk_next jsi return sheet₂ queue₂ tail₂ o =
+    pub walk_next : (get_or program i 0 ≡ 0x60 → ⊥) → (get_or program i 0 ≡ 0x6C → ⊥) → (sheet₂ queue₂ : List ℕ)
+        → Extended program sheet₁ queue₁ sheet₂ queue₂ × Obeyed program sheet₂ (start + i)
+        → Walking program sheet queue first sheet₂ queue₂ (head + 1)
+    walk_next jsi return sheet₂ queue₂ o =
         record {
           list = o.0.list;
           low = omega (arith, walk.low);
           high = omega (arith, o.0.longer);
           went = λ routines before g.
               let on = walk.went routines before g in
-              next program sheet₁ queue₁ head tail routines before on h sheet₂ queue₂ tail₂ routines before
-              (other-visited program sheet₁ queue₁ tail head routines before (going_visit program sheet₁ queue₁ head tail routines before on h) i is-i jsi
+              next program sheet₁ queue₁ head routines before on h sheet₂ queue₂ routines before
+              (other-visited program sheet₁ queue₁ head routines before (going_visit program sheet₁ queue₁ head routines before on h) i is-i jsi
               return
               sheet₂
               queue₂
-              tail₂
               o);
         }
 
 -- to the end of the queue
-pub walk_done : (program sheet queue : List ℕ) (first listed : ℕ) (sheet₁ queue₁ : List ℕ) (head tail : ℕ)
-    → Walking program sheet queue first listed sheet₁ queue₁ head tail → tail ≤ head
-    → Walked program sheet queue first listed sheet₁ queue₁ (Ok (record { head = head; tail = tail }))
-walk_done program sheet queue first listed sheet₁ queue₁ head tail walk end = (λ l. absurd (omega arith), walk.low, walk.went)
+pub walk_done : (program sheet queue : List ℕ) (first : ℕ) (sheet₁ queue₁ : List ℕ) (head : ℕ)
+    → Walking program sheet queue first sheet₁ queue₁ head → length queue₁ ≤ head → Walked program sheet queue first sheet₁ queue₁ (Ok head)
+walk_done program sheet queue first sheet₁ queue₁ head walk end = (λ l. absurd (omega arith), walk.low, walk.went)
 
 -- ---- after the last: the sheet is the smallest one
 
-module _ (program sheet queue routines before : List ℕ) (head tail : ℕ) (g : Going program sheet queue head tail routines before) (end : tail ≤ head) where
-  abbrev list : Listed program sheet queue tail
+module _ (program sheet queue routines before : List ℕ) (head : ℕ) (g : Going program sheet queue head routines before) (end : length queue ≤ head) where
+  abbrev list : Listed program sheet queue
   list = g.list
 
   abbrev waiting : Waiting program sheet queue head routines before
   waiting = g.waiting
 
   same : (at : ℕ) → mark_in sheet at ≡ mark_at list.marks at
-  same = marks_are program sheet queue tail list
+  same = marks_are program sheet queue list
 
   within : (at w r q : ℕ) → mark_in sheet at ≡ marked w r q → GoesOn program (mark_in sheet) (at, marked w r q)
-  within = goes_on_lem program sheet queue tail list
+  within = goes_on_lem program sheet queue list
 
   -- what is marked was visited
   rules : (at w r q : ℕ) → mark_in sheet at ≡ marked w r q → Rules program (mark_in sheet) at w r q

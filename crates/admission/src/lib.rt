@@ -10,20 +10,18 @@ ghost use Rattle.model.specs.Calls.{admit_call};
 ghost use Rattle.model.specs.Replies.{of_admit};
 ghost use Rattle.model.specs.Exactness.{Proper};
 ghost use Rattle.model.specs.Reasons.{Explains};
-ghost use Rattle.worklist.specs.Worklist.{ret_at, Marks, Obeyed, Listed, Outcome, placed, Visit, Visited};
-ghost use Rattle.admission.specs.Explored.{Judged, OfRoutines, Going, Met, Walked, Explored};
+ghost use Rattle.worklist.specs.Worklist.{ret_at, Marks, Obeyed, Same, IsListed, Ends, Visiting, VisitEnds};
+ghost use Rattle.admission.specs.Explored.{Judged, OfRoutines, Going, Walked, Explored};
 
 use buffers::clear;
 use model::{Reason, Refusal, START};
 use reasons::reason_of;
 use rules::{below_floor, depth_by_table, forbidden, lacks};
-use table::{Column, Stack, Table};
+use table::{Column, Table, WhichStack};
 pub use worklist::SHEET_RECORD;
-use worklist::{
-    Fault, JSI, PLACES, Places, RETURN, Rule, call, floor_of, follow, leave, mark, routine_of,
-};
+use worklist::{Fault, JSI, RETURN, Routines, Rule, Worklist};
 
-// "above 4,096 bytes" a program is not admitted. A number beside `PLACES`, so that a limit above the room of the arrays is refused by the check.
+// "above 4,096 bytes" a program is not admitted. A number beside that of the arrays of the worklist, so that a limit above their room is refused by the check.
 const ADMIT_MOST: usize = 4096;
 
 // ---- the sheet
@@ -50,32 +48,32 @@ struct Depths {
 }
 
 // What the rules say of the instruction at place i by itself, with the depths of its record: one fails; or these are the depths after it.
-fn depths_after(table: &Table, program: &[u8], sheet: &[u8], i: usize) -> Result<Depths, Fault>
-    requires { (i < length program.now) × (length program.now ≤ admit_most) × (sheet_record * i + 7 < length sheet.now) }
-    ensures { Judged program.now sheet.now i result }
+fn depths_after(table: &Table, list: &Worklist<'_>, i: usize) -> Result<Depths, Fault>
+    requires { (i < length list.now.program.now) × (length list.now.program.now ≤ admit_most) × (sheet_record * i + 7 < length list.now.sheet.now) }
+    ensures { Judged list.now.program.now list.now.sheet.now i result }
 {
-    let byte = program[i];
+    let byte = list.program[i];
     if forbidden(byte) {
         return Err(Fault::new(Rule::Forbidden, i, 0));
     }
     let after = i + usize::from(table.entry(byte, Column::Length));
-    if program.len() < after {
+    if list.program.len() < after {
         return Err(Fault::new(Rule::Cut, i, 0));
     }
     let place = SHEET_RECORD * i;
-    let work = sheet[place + 1];
-    if lacks(table, byte, Stack::Working, work) {
+    let work = list.sheet[place + 1];
+    if lacks(table, byte, WhichStack::Working, work) {
         return Err(Fault::new(Rule::FewWorking, i, 0));
     }
-    let work_after = depth_by_table(table, byte, Stack::Working, work);
+    let work_after = depth_by_table(table, byte, WhichStack::Working, work);
     if 255 < work_after {
         return Err(Fault::new(Rule::ManyWorking, i, 0));
     }
-    let ret = sheet[place + 2];
-    if lacks(table, byte, Stack::Returning, ret) {
+    let ret = list.sheet[place + 2];
+    if lacks(table, byte, WhichStack::Returning, ret) {
         return Err(Fault::new(Rule::FewReturn, i, 0));
     }
-    let ret_after = depth_by_table(table, byte, Stack::Returning, ret);
+    let ret_after = depth_by_table(table, byte, WhichStack::Returning, ret);
     if 255 < ret_after {
         return Err(Fault::new(Rule::ManyReturn, i, 0));
     }
@@ -88,55 +86,40 @@ fn depths_after(table: &Table, program: &[u8], sheet: &[u8], i: usize) -> Result
 
 // The instruction at place i takes return bytes below the floor of this routine, which is not above the return depth: one that takes none
 // does not.
-fn sinks(table: &Table, program: &[u8], sheet: &[u8], i: usize, routine: u16) -> bool
-    requires { (i < length program.now) × (sheet_record * i + 7 < length sheet.now) × (start ≤ routine)
-        × (sheet_record * (routine - start) + 2 < length sheet.now) × (ret_at sheet.now (routine - start) ≤ ret_at sheet.now i) }
-    ensures { result ≡ ltb (ret_at sheet.now i) (ret_at sheet.now (routine - start) + taken_from returning (get_or program.now i 0)) }
+fn sinks(table: &Table, list: &Worklist<'_>, i: usize, routine: u16) -> bool
+    requires { (i < length list.now.program.now) × (sheet_record * i + 7 < length list.now.sheet.now) × (start ≤ routine)
+        × (sheet_record * (routine - start) + 2 < length list.now.sheet.now)
+        × (ret_at list.now.sheet.now (routine - start) ≤ ret_at list.now.sheet.now i) }
+    ensures { result ≡ ltb (ret_at list.now.sheet.now i)
+        (ret_at list.now.sheet.now (routine - start) + taken_from returning (get_or list.now.program.now i 0)) }
 {
-    let byte = program[i];
-    if table.entry(byte, Column::Taken(Stack::Returning)) == 0 {
+    let byte = list.program[i];
+    if table.entry(byte, Column::Taken(WhichStack::Returning)) == 0 {
         return false;
     }
     below_floor(
         table,
         byte,
-        floor_of(sheet, routine),
-        sheet[SHEET_RECORD * i + 2],
+        list.floor(routine),
+        list.sheet[SHEET_RECORD * i + 2],
     )
 }
 
 // ---- what is neither a call nor a return
 
 // The instruction at place i.
-fn visit(
-    table: &Table,
-    program: &[u8],
-    sheet: &mut [u8],
-    queue: &mut Places,
-    tail: usize,
-    i: usize,
-) -> Result<usize, Fault>
-    requires { Listed program.now sheet.old queue.old tail × Marks sheet.old (start + i)
-        × (get_or program.now i 0 ≡ 0x60 → ⊥) × (get_or program.now i 0 ≡ 0x6C → ⊥) }
-    ensures { Outcome program.now sheet.old queue.old tail sheet.new queue.new
-        (Obeyed program.now sheet.new (start + i)) result }
+fn visit(table: &Table, list: &mut Worklist<'_>, i: usize) -> Result<(), Fault>
+    requires { IsListed list.old × Marks list.old.sheet.now (start + i)
+        × (get_or list.old.program.now i 0 ≡ 0x60 → ⊥) × (get_or list.old.program.now i 0 ≡ 0x6C → ⊥) }
+    ensures same { Same list.old list.new }
+    ensures ends { Ends list.old list.new (Obeyed list.old.program.now list.new.sheet.now (start + i)) result }
 {
-    let depths = depths_after(table, program, sheet, i)?;
-    let routine = routine_of(sheet, i);
-    if sinks(table, program, sheet, i, routine) {
+    let depths = depths_after(table, list, i)?;
+    let routine = list.routine(i);
+    if sinks(table, list, i, routine) {
         return Err(Fault::new(Rule::BelowFloor, i, 0));
     }
-    follow(
-        program,
-        sheet,
-        queue,
-        tail,
-        i,
-        depths.after,
-        depths.work,
-        depths.ret,
-        routine,
-    )
+    list.follow(i, depths.after, depths.work, depths.ret, routine)
 }
 
 // JSI and 6C.
@@ -146,36 +129,23 @@ fn of_routines(byte: u8) -> bool
     (byte == JSI) | (byte == RETURN)
 }
 
-// Where a walk ends: at this place of the queue, where a call or a return is next, or nothing, with so many addresses in the queue.
-#[derive(Clone, Copy)]
-struct Stop {
-    head: usize,
-    tail: usize,
-}
-
-// Visits the addresses from place `first` of the queue on, up to a call or a return. The queue grows while it is walked: no `for`.
-fn walk(
-    table: &Table,
-    program: &[u8],
-    sheet: &mut [u8],
-    queue: &mut Places,
-    first: usize,
-    listed: usize,
-) -> Result<Stop, Fault>
-    requires { Listed program.now sheet.old queue.old listed × (first ≤ listed) }
-    ensures { Walked program.now sheet.old queue.old first listed sheet.new queue.new result }
+// Visits the addresses from place `first` of the queue on, up to a call or a return: its place, or the end of the queue. The queue grows
+// while it is walked: no `for`.
+fn walk(table: &Table, list: &mut Worklist<'_>, first: usize) -> Result<usize, Fault>
+    requires { IsListed list.old × (first ≤ length list.old.queue.items) }
+    ensures same { Same list.old list.new }
+    ensures walked { Walked list.old.program.now list.old.sheet.now list.old.queue.items first list.new.sheet.now list.new.queue.items result }
 {
     let mut head = first;
-    let mut tail = listed;
-    while head < tail {
-        let i = usize::from(queue[head]);
-        if of_routines(program[i]) {
-            return Ok(Stop { head, tail });
+    while head < list.listed() {
+        let i = list.place(head);
+        if of_routines(list.program[i]) {
+            return Ok(head);
         }
-        tail = visit(table, program, sheet, queue, tail, i)?;
+        visit(table, list, i)?;
         head += 1;
     }
-    Ok(Stop { head, tail })
+    Ok(head)
 }
 
 // ---- calls and returns
@@ -183,90 +153,50 @@ fn walk(
 // The call or return at place `head` of the queue.
 fn visit_routine(
     table: &Table,
-    program: &[u8],
-    sheet: &mut [u8],
-    queue: &mut Places,
-    tail: usize,
+    list: &mut Worklist<'_>,
     head: usize,
-    routines: &mut Places,
-    before: &mut Places,
-) -> Result<usize, Fault>
-    requires { Visit program.now sheet.old queue.old tail head routines.old before.old
-        × OfRoutines (get_or program.now (get_or queue.old head 0) 0) }
-    ensures { Outcome program.now sheet.old queue.old tail sheet.new queue.new
-        (Visited program.now sheet.new queue.new head (placed queue.old head) routines.new before.new) result }
+    routines: &mut Routines,
+) -> Result<(), Fault>
+    requires { Visiting list.old head routines.old × OfRoutines (get_or list.old.program.now (get_or list.old.queue.items head 0) 0) }
+    ensures same { Same list.old list.new }
+    ensures ends { VisitEnds list.old list.new head routines.new result }
 {
-    let i = usize::from(queue[head]);
-    let depths = depths_after(table, program, sheet, i)?;
-    if program[i] == RETURN {
-        return leave(program, sheet, queue, tail, head, routines, before);
+    let i = list.place(head);
+    let depths = depths_after(table, list, i)?;
+    if list.program[i] == RETURN {
+        return list.leave(head, routines);
     }
-    call(
-        program,
-        sheet,
-        queue,
-        tail,
-        head,
-        routines,
-        before,
-        i,
-        depths.work,
-        depths.ret,
-    )
-}
-
-// Visits the addresses from place `first` of the queue on, which has the first call or return that is met. As in `walk`, the queue grows.
-fn explore_routines(
-    table: &Table,
-    program: &[u8],
-    sheet: &mut [u8],
-    queue: &mut Places,
-    first: usize,
-    listed: usize,
-) -> Result<usize, Fault>
-    requires { Going program.now sheet.old queue.old first listed (replicate admit_most 0) (replicate admit_most 0)
-        × Met program.now queue.old first listed }
-    ensures { Explored program.now sheet.new result }
-{
-    let mut routines: Places = [0; PLACES];
-    let mut before: Places = [0; PLACES];
-    let mut head = first;
-    let mut tail = listed;
-    while head < tail {
-        let more = visit_routine(
-            table,
-            program,
-            sheet,
-            queue,
-            tail,
-            head,
-            &mut routines,
-            &mut before,
-        )?;
-        let stop = walk(table, program, sheet, queue, head + 1, more)?;
-        head = stop.head;
-        tail = stop.tail;
-    }
-    Ok(tail)
+    list.call(head, routines, i, depths.work, depths.ret)
 }
 
 // ---- from the first address on
 
-// Visits each address that is reached from 0100, in the order in which they are found, until a rule fails; or all obey the rules, so many
-// of them. The arrays for calls and returns are made when the first one is met.
-fn explore(program: &[u8], sheet: &mut [u8]) -> Result<usize, Fault>
+// Visits each address that is reached from 0100, in the order in which they are found, until a rule fails; or all obey the rules. What is
+// known of routines is kept from the first call or return on. As in `walk`, the queue grows.
+fn visit_all(table: &Table, list: &mut Worklist<'_>) -> Result<(), Fault>
+    requires { Going list.old.program.now list.old.sheet.now list.old.queue.items 0 (replicate admit_most 0) (replicate admit_most 0) }
+    ensures same { Same list.old list.new }
+    ensures explored { Explored list.old.program.now list.new.sheet.now result }
+{
+    let mut head = walk(table, list, 0)?;
+    if head == list.listed() {
+        return Ok(());
+    }
+    let mut routines = Routines::new();
+    while head < list.listed() {
+        visit_routine(table, list, head, &mut routines)?;
+        head = walk(table, list, head + 1)?;
+    }
+    Ok(())
+}
+
+// The same of a sheet as admission asks for it.
+fn explore(program: &[u8], sheet: &mut [u8]) -> Result<(), Fault>
     requires { Proper program.now sheet.old }
     ensures { Explored program.now sheet.new result }
 {
-    let table = Table::new();
-    let mut queue: Places = [0; PLACES];
     unmark(program, sheet);
-    mark(sheet, 0, 0, 0, START);
-    let Stop { head, tail } = walk(&table, program, sheet, &mut queue, 0, 1)?;
-    if head == tail {
-        return Ok(tail);
-    }
-    explore_routines(&table, program, sheet, &mut queue, head, tail)
+    visit_all(&Table::new(), &mut Worklist::new(program, sheet))
 }
 
 // ---- the call
@@ -285,11 +215,13 @@ pub fn admit(program: &[u8], sheet: &mut [u8]) -> Result<(), Refusal>
     if sheet.len() != SHEET_RECORD * program.len() {
         return Err(Refusal::SheetLength);
     }
-    let Ok(_) = explore(program, sheet) else {
-        clear(sheet);
-        return Err(Refusal::NoAssignment);
-    };
-    Ok(())
+    match explore(program, sheet) {
+        Ok(()) => Ok(()),
+        Err(_) => {
+            clear(sheet);
+            Err(Refusal::NoAssignment)
+        }
+    }
 }
 
 // Why the program is not admitted, if it is not; the sheet is as admission asks for it.

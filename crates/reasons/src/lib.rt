@@ -10,7 +10,7 @@ ghost use Rattle.reasons.specs.Next.{next_place};
 
 use model::{Place, Reason, START};
 use rules::{depth_by_table, jump_target};
-use table::{Column, Stack, Table};
+use table::{Column, Table, WhichStack};
 use worklist::{Fault, JSI, RETURN, Rule, SHEET_RECORD, routine_of};
 
 // Place i of the program, with the depths and the routine of its record.
@@ -37,8 +37,8 @@ fn next_of(table: &Table, byte: u8, work: u8, ret: u8, at: u16, routine: u16) ->
 {
     Place {
         at,
-        work: depth_by_table(table, byte, Stack::Working, work) as u8,
-        ret: depth_by_table(table, byte, Stack::Returning, ret) as u8,
+        work: depth_by_table(table, byte, WhichStack::Working, work) as u8,
+        ret: depth_by_table(table, byte, WhichStack::Returning, ret) as u8,
         routine,
     }
 }
@@ -79,22 +79,22 @@ fn reason(table: &Table, program: &[u8], sheet: &[u8], rule: Rule, i: usize, j: 
         Rule::Cut => Reason::Cut(here, table.entry(byte, Column::Length)),
         Rule::FewWorking => Reason::FewWorking(
             here,
-            table.entry(byte, Column::Taken(Stack::Working)),
+            table.entry(byte, Column::Taken(WhichStack::Working)),
         ),
         Rule::ManyWorking => Reason::ManyWorking(
             here,
-            depth_by_table(table, byte, Stack::Working, work),
+            depth_by_table(table, byte, WhichStack::Working, work),
         ),
         Rule::FewReturn => Reason::FewReturn(
             here,
-            table.entry(byte, Column::Taken(Stack::Returning)),
+            table.entry(byte, Column::Taken(WhichStack::Returning)),
         ),
         Rule::ManyReturn => Reason::ManyReturn(
             here,
-            depth_by_table(table, byte, Stack::Returning, ret),
+            depth_by_table(table, byte, WhichStack::Returning, ret),
         ),
         Rule::BelowFloor => {
-            let taken = table.entry(byte, Column::Taken(Stack::Returning));
+            let taken = table.entry(byte, Column::Taken(WhichStack::Returning));
             Reason::BelowFloor(here, taken, place_of(sheet, usize::from(routine - START)))
         }
         Rule::After => {

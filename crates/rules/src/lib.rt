@@ -8,7 +8,7 @@ ghost use Rattle.table.specs.Column.{stack_number};
 ghost use Rattle.model.specs.Admission.{admit_most, byte_at, allowed, depth_after, target_of};
 
 use model::START;
-use table::{Column, Stack, Table};
+use table::{Column, Table, WhichStack};
 
 // A bit for each operation, byte modulo 32: JMP (0C), JCN (0D), JSR (0E), STR (13), STA (15).
 const FORBIDDEN: u32 = 0x0028_7000;
@@ -31,7 +31,7 @@ fn lowered(byte: u8, taken: u8) -> u8
 }
 
 // The stack does not hold "the bytes that it takes, keep or not".
-pub fn lacks(table: &Table, byte: u8, stack: Stack, depth: u8) -> bool
+pub fn lacks(table: &Table, byte: u8, stack: WhichStack, depth: u8) -> bool
     ensures { result ≡ nat_lt depth (taken_from (stack_number stack) byte) }
 {
     depth < table.entry(byte, Column::Taken(stack))
@@ -46,7 +46,7 @@ fn depth_after(depth: u8, byte: u8, taken: u8, pushed: u8) -> u16
 }
 
 // The same by the table.
-pub fn depth_by_table(table: &Table, byte: u8, stack: Stack, depth: u8) -> u16
+pub fn depth_by_table(table: &Table, byte: u8, stack: WhichStack, depth: u8) -> u16
     requires { taken_from (stack_number stack) byte ≤ depth }
     ensures { result ≡ depth_after (stack_number stack) byte depth }
 {
@@ -62,7 +62,7 @@ pub fn depth_by_table(table: &Table, byte: u8, stack: Stack, depth: u8) -> u16
 pub fn below_floor(table: &Table, byte: u8, floor: u8, depth: u8) -> bool
     ensures { result ≡ nat_lt depth (floor + taken_from returning byte) }
 {
-    let taken = table.entry(byte, Column::Taken(Stack::Returning));
+    let taken = table.entry(byte, Column::Taken(WhichStack::Returning));
     u16::from(depth) < u16::from(floor) + u16::from(taken)
 }
 

@@ -11,7 +11,7 @@ ghost use Rattle.table.specs.Column.{stack_number, column_number};
 
 // The two stacks.
 #[derive(Clone, Copy)]
-pub enum Stack {
+pub enum WhichStack {
     Working,
     Returning,
 }
@@ -19,8 +19,8 @@ pub enum Stack {
 // A column of the table: the bytes taken from a stack, the bytes pushed on a stack, the length of the instruction.
 #[derive(Clone, Copy)]
 pub enum Column {
-    Taken(Stack),
-    Pushed(Stack),
+    Taken(WhichStack),
+    Pushed(WhichStack),
     Length,
 }
 

@@ -17,17 +17,17 @@ use Rattle.rules.proofs.Instructions.{byte_is}
 use Rattle.std.specs.Prelude.{Result}
 use Rattle.worklist.specs.declared.Rule.{Rule}
 use Rattle.worklist.specs.Worklist.{work_at, ret_at, routine_at, Has, Led, Marks, Passing, Obeyed, Roots, Listed, Tested, Above, Extended, place_at, back_place, Lost, Told, Outcome, placed, Calls, Last, Back, AllBack, Left, Chain, returned_at, Waiting, Visit, Visited, Failing}
-use Rattle.worklist.proofs.Worklist.{same_parts, grown_left, goes_on_lem, marked_parts, marked-inside, stands_at, root, root_low, root_place, floor_is, record_inside, queue_most, unextended, extended_again, outcome_by, outcome_after}
+use Rattle.worklist.proofs.Listed.{same_parts, grown_left, goes_on_lem, marked_parts, marked-inside, stands_at, root, root_low, root_place, floor_is, record_inside, queue_most, unextended, extended_again, outcome_by, outcome_after}
 use Rattle.worklist.proofs.Visits.{told, told_alone, rooting, passes, led-call, called_among, target_astray, return_obeyed, call_obeyed}
 use Rattle.worklist.proofs.Waits.{next-other, next_known, next-first, next_waits, next-back, Released, released_one, same_calls, more_passing, more_last, more-waiting, more_released}
 
 -- ---- the address after a call
 
-module _ (program sheet queue : List ℕ) (tail : ℕ) (list : Listed program sheet queue tail) (i : ℕ) (here : Marks sheet (start + i))
+module _ (program sheet queue : List ℕ) (list : Listed program sheet queue) (i : ℕ) (here : Marks sheet (start + i))
     (jsi : byte_at program (start + i) ≡ 0x60) (pass : Passing program sheet (start + i)) (from v : ℕ)
     (x : Left program sheet (target_of program (start + i)) from v) where
   this_mark : mark_in sheet (start + i) ≡ marked (work_at sheet i) (ret_at sheet i) (routine_at sheet i)
-  this_mark = marked_parts program sheet queue tail list i here
+  this_mark = marked_parts program sheet queue list i here
 
   this_pass : Passes program (start + i) (work_at sheet i) (ret_at sheet i)
   this_pass = pass (work_at sheet i) (ret_at sheet i) (routine_at sheet i) this_mark
@@ -53,13 +53,13 @@ module _ (program sheet queue : List ℕ) (tail : ℕ) (list : Listed program sh
       rw after_is at all
 
   pub back_asks : (p : ℕ) → p ≡ routine_at sheet i
-      → Listed program sheet queue tail × Led program (start + (i + 3)) v (ret_at sheet i) p × Roots program sheet (start + (i + 3)) (ret_at sheet i) p
-  back_asks p e = (list, rw e (comes.0, comes.1), inr (rw e (root program sheet queue tail list i here)))
+      → Listed program sheet queue × Led program (start + (i + 3)) v (ret_at sheet i) p × Roots program sheet (start + (i + 3)) (ret_at sheet i) p
+  back_asks p e = (list, rw e (comes.0, comes.1), inr (rw e (root program sheet queue list i here)))
 
-  pub back_ends : (sheet₁ queue₁ : List ℕ) (p k : ℕ) → p ≡ routine_at sheet i
-      → Extended program sheet queue tail sheet₁ queue₁ k × (mark_in sheet₁ (start + (i + 3)) ≡ marked v (ret_at sheet i) p)
-      → Extended program sheet queue tail sheet₁ queue₁ k × Back program sheet₁ (start + i) v
-  back_ends sheet₁ queue₁ p k e o = (
+  pub back_ends : (sheet₁ queue₁ : List ℕ) (p : ℕ) → p ≡ routine_at sheet i
+      → Extended program sheet queue sheet₁ queue₁ × (mark_in sheet₁ (start + (i + 3)) ≡ marked v (ret_at sheet i) p)
+      → Extended program sheet queue sheet₁ queue₁ × Back program sheet₁ (start + i) v
+  back_ends sheet₁ queue₁ p e o = (
     o.0,
     λ w r q f.
         let d = same_parts (o.0.grown _ _ _ _ this_mark) f in
@@ -71,7 +71,7 @@ module _ (program sheet queue : List ℕ) (tail : ℕ) (list : Listed program sh
   from-marks = (v, x.ret, target_of program (start + i), x.here)
 
   from-work : work_at sheet from ≡ v
-  from-work = (same_parts (marked_parts program sheet queue tail list from from-marks) x.here).0
+  from-work = (same_parts (marked_parts program sheet queue list from from-marks) x.here).0
 
   pub back_astray : (sheet₁ : List ℕ) (p : ℕ) → p ≡ routine_at sheet i
       → (sheet₁ ≡ sheet) × (Within program (start + (i + 3)) → Marks sheet (start + (i + 3)) × (Has sheet (start + (i + 3) - start) v (ret_at sheet i) p → ⊥))
@@ -84,65 +84,65 @@ module _ (program sheet queue : List ℕ) (tail : ℕ) (list : Listed program sh
         other = λ a.
             let z : start + (start + (i + 3) - start) ≡ start + (i + 3) = omega arith in
             let m = other a in
-            (stands_at program sheet queue tail list (start + (i + 3) - start) (rw z m.0), λ b. m.1 (sym b.0 ∙ from-work, sym b.1, sym b.2));
+            (stands_at program sheet queue list (start + (i + 3) - start) (rw z m.0), λ b. m.1 (sym b.0 ∙ from-work, sym b.1, sym b.2));
       } in
       rw o.0
-      (told program sheet queue tail list i here Rule.Back from (marked-inside program sheet queue tail list from from-marks) (back_inside, lost))
+      (told program sheet queue list i here Rule.Back from (marked-inside program sheet queue list from from-marks) (back_inside, lost))
 
 -- ---- the calls that wait, one after the other
 
-module _ (program sheet queue : List ℕ) (tail : ℕ) (list : Listed program sheet queue tail) (before : List ℕ) (q n from v : ℕ)
-    (chain : Chain program sheet queue tail before q n) (x : Left program sheet q from v) where
-  pub release_starts : (j : ℕ) → j ≡ n → Extended program sheet queue tail sheet queue tail × Released program sheet queue q n v j
+module _ (program sheet queue : List ℕ) (list : Listed program sheet queue) (before : List ℕ) (q n from v : ℕ)
+    (chain : Chain program sheet queue before q n) (x : Left program sheet q from v) where
+  pub release_starts : (j : ℕ) → j ≡ n → Extended program sheet queue sheet queue × Released program sheet queue q n v j
   release_starts j e = (
-    unextended program sheet queue tail list,
+    unextended program sheet queue list,
     rw e record { low = omega arith; this = chain.this; done = λ k a b c. absurd (omega arith) },
   )
 
-  module _ (sheet₁ queue₁ : List ℕ) (most j : ℕ) (g : Extended program sheet queue tail sheet₁ queue₁ most × Released program sheet₁ queue₁ q n v j)
+  module _ (sheet₁ queue₁ : List ℕ) (j : ℕ) (g : Extended program sheet queue sheet₁ queue₁ × Released program sheet₁ queue₁ q n v j)
       (some : 0 < j) where
     this : Calls program queue₁ q (j - 1)
     this = g.1.this (j - 1) (omega arith)
 
-    pub turn_low : j - 1 < most
+    pub turn_low : j - 1 < length queue₁
     turn_low = omega (arith, g.1.low, chain.low, g.0.longer)
 
     pub turn_inside : j - 1 < admit_most
-    turn_inside = omega (arith, turn_low, queue_most program sheet₁ queue₁ most g.0.list, list.most)
+    turn_inside = omega (arith, turn_low, queue_most program sheet₁ queue₁ g.0.list, list.most)
 
     earlier : Last program queue q (j - 1) (get_or before (j - 1) 0)
     earlier =
         chain.befores (j - 1) (omega (arith, g.1.low))
-        (same_calls program sheet queue tail list sheet₁ queue₁ most g.0 q (j - 1) (omega (arith, g.1.low, chain.low)) this)
+        (same_calls program sheet queue list sheet₁ queue₁ g.0 q (j - 1) (omega (arith, g.1.low, chain.low)) this)
 
     pub turn_less : get_or before (j - 1) 0 < j
     turn_less = omega (arith, earlier.low)
 
     module _ (i : ℕ) (is-i : i ≡ get_or queue₁ (j - 1) 0) where
-      pub turn_asks : Listed program sheet₁ queue₁ most × Marks sheet₁ (start + i) × (byte_at program (start + i) ≡ 0x60)
+      pub turn_asks : Listed program sheet₁ queue₁ × Marks sheet₁ (start + i) × (byte_at program (start + i) ≡ 0x60)
           × Passing program sheet₁ (start + i) × Left program sheet₁ (target_of program (start + i)) from v
       turn_asks = (
         g.0.list,
         rw is-i (g.0.list.listed (j - 1) turn_low),
         rw is-i this.0,
         rw is-i
-            (more_passing program sheet queue tail list sheet₁ queue₁ most g.0 (j - 1) (omega (arith, g.1.low, chain.low))
+            (more_passing program sheet queue list sheet₁ queue₁ g.0 (j - 1) (omega (arith, g.1.low, chain.low))
             (chain.passed (j - 1) (omega (arith, g.1.low)))),
         rw (is-i, this.1) (grown_left program sheet sheet₁ g.0.grown q from v x),
       )
 
-      pub turn_ends : (sheet₂ queue₂ : List ℕ) (m k : ℕ) → k ≡ get_or before (j - 1) 0
-          → Extended program sheet₁ queue₁ most sheet₂ queue₂ m × Back program sheet₂ (start + i) v
-          → Extended program sheet queue tail sheet₂ queue₂ m × Released program sheet₂ queue₂ q n v k
-      turn_ends sheet₂ queue₂ m k e o =
+      pub turn_ends : (sheet₂ queue₂ : List ℕ) (k : ℕ) → k ≡ get_or before (j - 1) 0
+          → Extended program sheet₁ queue₁ sheet₂ queue₂ × Back program sheet₂ (start + i) v
+          → Extended program sheet queue sheet₂ queue₂ × Released program sheet₂ queue₂ q n v k
+      turn_ends sheet₂ queue₂ k e o =
           let both = extended_again g.0 o.0 in
           let z : suc (j - 1) ≡ j = omega arith in
           let same : placed queue₂ (j - 1) ≡ start + i = ap (λ a. start + a) (o.0.kept (j - 1) turn_low ∙ sym is-i) in (
             both,
             released_one program sheet₂ queue₂ q n v (j - 1) k
-                (rw z (more_released program sheet₁ queue₁ most g.0.list sheet₂ queue₂ m o.0 q n v j (omega (arith, chain.low, g.0.longer)) g.1))
+                (rw z (more_released program sheet₁ queue₁ g.0.list sheet₂ queue₂ o.0 q n v j (omega (arith, chain.low, g.0.longer)) g.1))
                 (rw same o.1)
-                (rw e (more_last program sheet queue tail list sheet₂ queue₂ m both q (j - 1) (get_or before (j - 1) 0) (omega (arith, g.1.low, chain.low)) earlier)),
+                (rw e (more_last program sheet queue list sheet₂ queue₂ both q (j - 1) (get_or before (j - 1) 0) (omega (arith, g.1.low, chain.low)) earlier)),
           )
 
 -- all of them
@@ -157,28 +157,28 @@ obeyed_passes program sheet at o w r q e =
 
 -- ---- place `head` of the queue
 
-module _ (program sheet queue : List ℕ) (tail head : ℕ) (routines before : List ℕ) (g : Visit program sheet queue tail head routines before)
+module _ (program sheet queue : List ℕ) (head : ℕ) (routines before : List ℕ) (g : Visit program sheet queue head routines before)
     (i : ℕ) (is-i : i ≡ get_or queue head 0) where
-  abbrev list : Listed program sheet queue tail
+  abbrev list : Listed program sheet queue
   list = g.list
 
   pub here : Marks sheet (start + i)
   here = rw is-i (list.listed head g.low)
 
   parts : mark_in sheet (start + i) ≡ marked (work_at sheet i) (ret_at sheet i) (routine_at sheet i)
-  parts = marked_parts program sheet queue tail list i here
+  parts = marked_parts program sheet queue list i here
 
   place : placed queue head ≡ start + i
   place = rw is-i
 
   pub head_inside : head < admit_most
-  head_inside = omega (arith, g.low, list.most, queue_most program sheet queue tail list)
+  head_inside = omega (arith, g.low, list.most, queue_most program sheet queue list)
 
   pub record_low : sheet_record * i + 7 < length sheet
-  record_low = record_inside program sheet queue tail list i here
+  record_low = record_inside program sheet queue list i here
 
   -- with more marks
-  module _ (sheet₁ queue₁ : List ℕ) (tail₁ : ℕ) (more : Extended program sheet queue tail sheet₁ queue₁ tail₁) where
+  module _ (sheet₁ queue₁ : List ℕ) (more : Extended program sheet queue sheet₁ queue₁) where
     place₁ : placed queue₁ head ≡ start + i
     place₁ = ap (λ a. start + a) (more.kept head g.low) ∙ place
 
@@ -189,31 +189,31 @@ module _ (program sheet queue : List ℕ) (tail head : ℕ) (routines before : L
     mark₁ = ap (mark_in sheet₁) place₁ ∙ more.grown _ _ _ _ parts
 
     waiting₁ : Waiting program sheet₁ queue₁ head routines before
-    waiting₁ = more-waiting program sheet queue tail list sheet₁ queue₁ tail₁ more head routines before (omega (arith, g.low)) g.waiting
+    waiting₁ = more-waiting program sheet queue list sheet₁ queue₁ more head routines before (omega (arith, g.low)) g.waiting
 
   -- it passes, with more marks too
-  passing : (work ret : ℕ) → Tested program sheet i work ret → (sheet₁ queue₁ : List ℕ) (tail₁ : ℕ) → Extended program sheet queue tail sheet₁ queue₁ tail₁
+  passing : (work ret : ℕ) → Tested program sheet i work ret → (sheet₁ queue₁ : List ℕ) → Extended program sheet queue sheet₁ queue₁
       → Passing program sheet₁ (placed queue₁ head)
-  passing work ret t sheet₁ queue₁ tail₁ more v s p e =
-      let d = same_parts (mark₁ sheet₁ queue₁ tail₁ more) e in
-      rw (place₁ sheet₁ queue₁ tail₁ more, ← d.0, ← d.1) (passes program sheet queue tail list i here work ret t)
+  passing work ret t sheet₁ queue₁ more v s p e =
+      let d = same_parts (mark₁ sheet₁ queue₁ more) e in
+      rw (place₁ sheet₁ queue₁ more, ← d.0, ← d.1) (passes program sheet queue list i here work ret t)
 
   pub leave_asks : get_or program i 0 ≡ 0x6C → (work ret : ℕ) → Tested program sheet i work ret
-      → Visit program sheet queue tail head routines before × (get_or program (get_or queue head 0) 0 ≡ 0x6C)
+      → Visit program sheet queue head routines before × (get_or program (get_or queue head 0) 0 ≡ 0x6C)
       × ((work : ℕ) × (ret : ℕ) × Tested program sheet (get_or queue head 0) work ret)
   leave_asks e work ret t = (g, rw is-i at e, (work, ret, rw is-i at t))
 
   -- ---- neither a call nor a return
-  pub other-visited : (get_or program i 0 ≡ 0x60 → ⊥) → (get_or program i 0 ≡ 0x6C → ⊥) → (sheet₁ queue₁ : List ℕ) (k : ℕ)
-      → Extended program sheet queue tail sheet₁ queue₁ k × Obeyed program sheet₁ (start + i)
-      → Extended program sheet queue tail sheet₁ queue₁ k × Visited program sheet₁ queue₁ head (placed queue head) routines before
-  other-visited jsi return sheet₁ queue₁ k o = (
+  pub other-visited : (get_or program i 0 ≡ 0x60 → ⊥) → (get_or program i 0 ≡ 0x6C → ⊥) → (sheet₁ queue₁ : List ℕ)
+      → Extended program sheet queue sheet₁ queue₁ × Obeyed program sheet₁ (start + i)
+      → Extended program sheet queue sheet₁ queue₁ × Visited program sheet₁ queue₁ head (placed queue head) routines before
+  other-visited jsi return sheet₁ queue₁ o = (
     o.0,
     (
       rw place o.1,
-      next-other program sheet₁ queue₁ head routines before (waiting₁ sheet₁ queue₁ k o.0)
-          (λ w r q e. obeyed_passes program sheet₁ (placed queue₁ head) (rw (place₁ sheet₁ queue₁ k o.0) o.1) w r q e)
-          (λ e. jsi (sym (byte₁ sheet₁ queue₁ k o.0) ∙ e)) (λ e. return (sym (byte₁ sheet₁ queue₁ k o.0) ∙ e)),
+      next-other program sheet₁ queue₁ head routines before (waiting₁ sheet₁ queue₁ o.0)
+          (λ w r q e. obeyed_passes program sheet₁ (placed queue₁ head) (rw (place₁ sheet₁ queue₁ o.0) o.1) w r q e)
+          (λ e. jsi (sym (byte₁ sheet₁ queue₁ o.0) ∙ e)) (λ e. return (sym (byte₁ sheet₁ queue₁ o.0) ∙ e)),
     ),
   )
 
@@ -228,12 +228,12 @@ module _ (program sheet queue : List ℕ) (tail head : ℕ) (routines before : L
 
     module _ (least : ℕ) (least_is : least ≡ ret_at sheet (p - start)) where
       least-floor : least ≡ floor (mark_in sheet) (routine_at sheet i)
-      least-floor = least_is ∙ rw p-is (floor_is program sheet queue tail list i here)
+      least-floor = least_is ∙ rw p-is (floor_is program sheet queue list i here)
 
       pub off_floor : (least ≡ ret_at sheet i → ⊥) → Told program sheet Rule.ReturnOffFloor i 0
       off_floor h =
-          told_alone program sheet queue tail list i here Rule.ReturnOffFloor
-          (return, rooting program sheet queue tail list i here, λ e. h (least_is ∙ sym (e ∙ ap (λ a. ret_at sheet (a - start)) (sym p-is))))
+          told_alone program sheet queue list i here Rule.ReturnOffFloor
+          (return, rooting program sheet queue list i here, λ e. h (least_is ∙ sym (e ∙ ap (λ a. ret_at sheet (a - start)) (sym p-is))))
 
       module _ (low : least ≡ ret_at sheet i) (entry : ℕ) (entry-is : entry ≡ p - start) where
         -- at the floor of 0100, which is 0, there are no bytes to take
@@ -248,10 +248,10 @@ module _ (program sheet queue : List ℕ) (tail head : ℕ) (routines before : L
         entry_at = entry-is ∙ ap (λ a. a - start) p-is
 
         routine-at : start + entry ≡ routine_at sheet i
-        routine-at = omega (arith, entry_at, root_low program sheet queue tail list i here)
+        routine-at = omega (arith, entry_at, root_low program sheet queue list i here)
 
         pub entry-inside : entry < admit_most
-        entry-inside = omega (arith, entry_at, root_place program sheet queue tail list i here, list.most)
+        entry-inside = omega (arith, entry_at, root_place program sheet queue list i here, list.most)
 
         left : Left program sheet (routine_at sheet i) i (work_at sheet i)
         left =
@@ -259,14 +259,14 @@ module _ (program sheet queue : List ℕ) (tail head : ℕ) (routines before : L
               ret = ret_at sheet i;
               here = parts;
               returns = byte_is program i ∙ return;
-              passes = passes program sheet queue tail list i here tested.0 tested.1 t;
+              passes = passes program sheet queue list i here tested.0 tested.1 t;
             }
 
         obeys : (more : List ℕ) → ((b v s p : ℕ) → mark_in sheet b ≡ marked v s p → mark_in more b ≡ marked v s p)
             → Obeyed program more (placed queue head)
         obeys more grown =
             rw place
-            (return_obeyed program sheet queue tail list i here tested.0 tested.1 t return (sym low ∙ least-floor) inner more grown)
+            (return_obeyed program sheet queue list i here tested.0 tested.1 t return (sym low ∙ least-floor) inner more grown)
 
         -- the routine has a return
         module _ (some : returned_at 0 ≤ get_or routines entry 0) (other : ℕ) (other-is : other ≡ get_or routines entry 0 - returned_at 0) where
@@ -276,33 +276,33 @@ module _ (program sheet queue : List ℕ) (tail head : ℕ) (routines before : L
               ap (λ a. get_or routines a 0) (sym entry_at) ∙ m
 
           that : (v : ℕ) × Left program sheet (routine_at sheet i) other v
-          that = g.waiting.leaves (routine_at sheet i) other (root_low program sheet queue tail list i here) stored
+          that = g.waiting.leaves (routine_at sheet i) other (root_low program sheet queue list i here) stored
 
           that_marks : Marks sheet (start + other)
           that_marks = (that.0, that.1.ret, routine_at sheet i, that.1.here)
 
           that_parts : (work_at sheet other ≡ that.0) × (ret_at sheet other ≡ that.1.ret) × (routine_at sheet other ≡ routine_at sheet i)
-          that_parts = same_parts (marked_parts program sheet queue tail list other that_marks) that.1.here
+          that_parts = same_parts (marked_parts program sheet queue list other that_marks) that.1.here
 
           pub other-inside : other < length program
-          other-inside = marked-inside program sheet queue tail list other that_marks
+          other-inside = marked-inside program sheet queue list other that_marks
 
           pub other_record : sheet_record * other + 7 < length sheet
-          other_record = record_inside program sheet queue tail list other that_marks
+          other_record = record_inside program sheet queue list other that_marks
 
           -- with this working depth
           pub known : work_at sheet other ≡ work_at sheet i
-              → Extended program sheet queue tail sheet queue tail × Visited program sheet queue head (placed queue head) routines before
+              → Extended program sheet queue sheet queue × Visited program sheet queue head (placed queue head) routines before
           known e =
-              let same = unextended program sheet queue tail list in
+              let same = unextended program sheet queue list in
               let z : that.0 ≡ work_at sheet i = sym that_parts.0 ∙ e in (
                 same,
                 (
                   obeys sheet (λ b v s p f. f),
-                  next_known program sheet queue head routines before g.waiting (passing tested.0 tested.1 t sheet queue tail same)
+                  next_known program sheet queue head routines before g.waiting (passing tested.0 tested.1 t sheet queue same)
                       (work_at sheet i) (ret_at sheet i) (routine_at sheet i)
-                      (mark₁ sheet queue tail same)
-                      (byte₁ sheet queue tail same ∙ return)
+                      (mark₁ sheet queue same)
+                      (byte₁ sheet queue same ∙ return)
                       (other, stored, rw z at that.1),
                 ),
               )
@@ -310,20 +310,20 @@ module _ (program sheet queue : List ℕ) (tail head : ℕ) (routines before : L
           -- with another one
           pub another : (work_at sheet other ≡ work_at sheet i → ⊥) → Told program sheet Rule.ReturnsDiffer i other
           another h =
-              told program sheet queue tail list i here Rule.ReturnsDiffer other other-inside (
+              told program sheet queue list i here Rule.ReturnsDiffer other other-inside (
                 return,
                 sym (byte_is program other) ∙ that.1.returns,
-                stands_at program sheet queue tail list other that_marks,
+                stands_at program sheet queue list other that_marks,
                 sym that_parts.2,
                 λ e. h (sym e),
               )
 
         -- none yet
         pub release_asks : get_or routines entry 0 < returned_at 0
-            → Listed program sheet queue tail × Chain program sheet queue tail before (start + entry) (get_or routines entry 0)
+            → Listed program sheet queue × Chain program sheet queue before (start + entry) (get_or routines entry 0)
             × Left program sheet (start + entry) i (work_at sheet i) × (entry < admit_most)
         release_asks z =
-            let l = root_low program sheet queue tail list i here in
+            let l = root_low program sheet queue list i here in
             let none : get_or routines (routine_at sheet i - start) 0 ≤ admit_most = omega (arith, ap (λ a. get_or routines a 0) entry_at) in
             let lasts = g.waiting.lasts (routine_at sheet i) l none in (
               list,
@@ -340,26 +340,26 @@ module _ (program sheet queue : List ℕ) (tail head : ℕ) (routines before : L
 
         pub first-visited : get_or routines entry 0 < returned_at 0 → (sheet₁ queue₁ routines₁ : List ℕ)
             → routines₁ ≡ set routines entry (returned_at i)
-            → (n : Result ℕ Failing) → Outcome program sheet queue tail sheet₁ queue₁ (AllBack program sheet₁ queue₁ (start + entry) (get_or routines entry 0) (work_at sheet i)) n
-            → Outcome program sheet queue tail sheet₁ queue₁ (Visited program sheet₁ queue₁ head (placed queue head) routines₁ before) n
+            → (n : Result (Unit {0}) Failing) → Outcome program sheet queue sheet₁ queue₁ (AllBack program sheet₁ queue₁ (start + entry) (get_or routines entry 0) (work_at sheet i)) n
+            → Outcome program sheet queue sheet₁ queue₁ (Visited program sheet₁ queue₁ head (placed queue head) routines₁ before) n
         first-visited z sheet₁ queue₁ routines₁ l =
-            outcome_by program sheet queue tail sheet₁ queue₁
+            outcome_by program sheet queue sheet₁ queue₁
             (AllBack program sheet₁ queue₁ (start + entry) (get_or routines entry 0) (work_at sheet i))
             (Visited program sheet₁ queue₁ head (placed queue head) routines₁ before)
-            (λ k more b.
+            (λ more b.
             let q = routine_at sheet i in
-            let low = root_low program sheet queue tail list i here in
-            let waits = waiting₁ sheet₁ queue₁ k more in
+            let low = root_low program sheet queue list i here in
+            let waits = waiting₁ sheet₁ queue₁ more in
             let none : get_or routines (q - start) 0 ≤ admit_most = omega (arith, ap (λ a. get_or routines a 0) entry_at) in
             let b₁ : AllBack program sheet₁ queue₁ q (get_or routines (q - start) 0) (work_at sheet i) = rw (routine-at, entry_at) at b in (
               obeys sheet₁ more.grown,
               rw (l, entry_at)
-                  (next-first program sheet₁ queue₁ head routines before waits (passing tested.0 tested.1 t sheet₁ queue₁ k more)
+                  (next-first program sheet₁ queue₁ head routines before waits (passing tested.0 tested.1 t sheet₁ queue₁ more)
                   (work_at sheet i) (ret_at sheet i) q i low
                   (omega (arith, g.waiting.routines_size, entry-inside, entry_at))
-                  (place₁ sheet₁ queue₁ k more)
-                  (mark₁ sheet₁ queue₁ k more)
-                  (byte₁ sheet₁ queue₁ k more ∙ return)
+                  (place₁ sheet₁ queue₁ more)
+                  (mark₁ sheet₁ queue₁ more)
+                  (byte₁ sheet₁ queue₁ more ∙ return)
                   none
                   (λ j h c. elim (dec_lt j (get_or routines (q - start) 0)) [
                     | yes m ↦ b₁ j m c
@@ -382,8 +382,8 @@ module _ (program sheet queue : List ℕ) (tail head : ℕ) (routines before : L
           enters = sym target_is;
         }
 
-    pub call_asks : Listed program sheet queue tail × Led program target work ret target × Roots program sheet target ret target
-    call_asks = (list, led-call program sheet queue tail list i here work ret t jsi target target_is, inl (called, refl))
+    pub call_asks : Listed program sheet queue × Led program target work ret target × Roots program sheet target ret target
+    call_asks = (list, led-call program sheet queue list i here work ret t jsi target target_is, inl (called, refl))
 
     -- the target is outside the program, or has another mark
     pub call_astray : (sheet₁ : List ℕ)
@@ -391,14 +391,14 @@ module _ (program sheet queue : List ℕ) (tail head : ℕ) (routines before : L
         → Told program sheet₁ Rule.Target i 0
     unfolding decoding
     call_astray sheet₁ =
-        target_astray program sheet queue tail list i here work ret t sheet₁ target target target_is (target_is ∙ rw jsi) (rw jsi)
-        (called_among program sheet queue tail list i here work ret t jsi target target_is)
+        target_astray program sheet queue list i here work ret t sheet₁ target target target_is (target_is ∙ rw jsi) (rw jsi)
+        (called_among program sheet queue list i here work ret t jsi target target_is)
 
     -- the target is marked
-    module _ (sheet₁ queue₁ : List ℕ) (tail₁ : ℕ)
-        (o : Extended program sheet queue tail sheet₁ queue₁ tail₁ × (mark_in sheet₁ target ≡ marked work ret target)) where
+    module _ (sheet₁ queue₁ : List ℕ)
+        (o : Extended program sheet queue sheet₁ queue₁ × (mark_in sheet₁ target ≡ marked work ret target)) where
       within : (start ≤ target) × (target < start + length program)
-      within = (goes_on_lem program sheet₁ queue₁ tail₁ o.0.list target work ret target o.1).0
+      within = (goes_on_lem program sheet₁ queue₁ o.0.list target work ret target o.1).0
 
       pub target-low : start ≤ target
       target-low = within.0
@@ -408,34 +408,34 @@ module _ (program sheet queue : List ℕ) (tail head : ℕ) (routines before : L
         target-inside = omega (arith, within.0, within.1, list.most)
 
         -- its byte and its target, and that it obeys the rules
-        calls : (sheet₂ queue₂ : List ℕ) (tail₂ : ℕ) → Extended program sheet queue tail sheet₂ queue₂ tail₂ → Calls program queue₂ target head
-        calls sheet₂ queue₂ tail₂ both = (
-          byte₁ sheet₂ queue₂ tail₂ both ∙ jsi,
-          ap (target_of program) (place₁ sheet₂ queue₂ tail₂ both) ∙ sym target_is,
+        calls : (sheet₂ queue₂ : List ℕ) → Extended program sheet queue sheet₂ queue₂ → Calls program queue₂ target head
+        calls sheet₂ queue₂ both = (
+          byte₁ sheet₂ queue₂ both ∙ jsi,
+          ap (target_of program) (place₁ sheet₂ queue₂ both) ∙ sym target_is,
         )
 
-        obeys_call : (sheet₂ queue₂ : List ℕ) (tail₂ : ℕ) → Extended program sheet₁ queue₁ tail₁ sheet₂ queue₂ tail₂
+        obeys_call : (sheet₂ queue₂ : List ℕ) → Extended program sheet₁ queue₁ sheet₂ queue₂
             → Obeyed program sheet₂ (placed queue head)
-        obeys_call sheet₂ queue₂ tail₂ more =
+        obeys_call sheet₂ queue₂ more =
             rw place
-            (call_obeyed program sheet queue tail list i here work ret t above jsi sheet₂ queue₂ tail₂ more.list (extended_again o.0 more).grown target
+            (call_obeyed program sheet queue list i here work ret t above jsi sheet₂ queue₂ more.list (extended_again o.0 more).grown target
             target_is
             (more.grown target work ret target o.1))
 
         -- its routine has no return yet
         pub no_return : get_or routines entry 0 < returned_at 0
-            → Extended program sheet queue tail sheet₁ queue₁ tail₁
+            → Extended program sheet queue sheet₁ queue₁
             × Visited program sheet₁ queue₁ head (placed queue head) (set routines entry (head + 1)) (set before head (get_or routines entry 0))
         no_return z = (
           o.0,
           (
-            obeys_call sheet₁ queue₁ tail₁ (unextended program sheet₁ queue₁ tail₁ o.0.list),
+            obeys_call sheet₁ queue₁ (unextended program sheet₁ queue₁ o.0.list),
             rw entry-is
-                (next_waits program sheet₁ queue₁ head routines before (waiting₁ sheet₁ queue₁ tail₁ o.0) (passing work ret t sheet₁ queue₁ tail₁ o.0) target target-low
+                (next_waits program sheet₁ queue₁ head routines before (waiting₁ sheet₁ queue₁ o.0) (passing work ret t sheet₁ queue₁ o.0) target target-low
                 (omega (arith, g.waiting.routines_size, target-inside))
                 (omega (arith, g.waiting.before_size, head_inside))
                 head_inside
-                (calls sheet₁ queue₁ tail₁ o.0)
+                (calls sheet₁ queue₁ o.0)
                 (omega (arith, ap (λ a. get_or routines a 0) entry-is))),
           ),
         )
@@ -455,41 +455,41 @@ module _ (program sheet queue : List ℕ) (tail head : ℕ) (routines before : L
           from-marked = (returned.0, returned-more.ret, target, returned-more.here)
 
           pub from_record : sheet_record * from + 7 < length sheet₁
-          from_record = record_inside program sheet₁ queue₁ tail₁ o.0.list from from-marked
+          from_record = record_inside program sheet₁ queue₁ o.0.list from from-marked
 
           pub from-inside : from < length program
-          from-inside = marked-inside program sheet₁ queue₁ tail₁ o.0.list from from-marked
+          from-inside = marked-inside program sheet₁ queue₁ o.0.list from from-marked
 
           abbrev v : ℕ
           v = work_at sheet₁ from
 
           depth_is : returned.0 ≡ v
-          depth_is = sym (same_parts (marked_parts program sheet₁ queue₁ tail₁ o.0.list from from-marked) returned-more.here).0
+          depth_is = sym (same_parts (marked_parts program sheet₁ queue₁ o.0.list from from-marked) returned-more.here).0
 
-          pub come_asks : Listed program sheet₁ queue₁ tail₁ × Marks sheet₁ (start + i) × (byte_at program (start + i) ≡ 0x60)
+          pub come_asks : Listed program sheet₁ queue₁ × Marks sheet₁ (start + i) × (byte_at program (start + i) ≡ 0x60)
               × Passing program sheet₁ (start + i) × Left program sheet₁ (target_of program (start + i)) from v
           come_asks = (
             o.0.list,
             (work_at sheet i, ret_at sheet i, routine_at sheet i, o.0.grown _ _ _ _ parts),
             byte_is program i ∙ jsi,
-            rw (place₁ sheet₁ queue₁ tail₁ o.0) at (passing work ret t sheet₁ queue₁ tail₁ o.0),
+            rw (place₁ sheet₁ queue₁ o.0) at (passing work ret t sheet₁ queue₁ o.0),
             rw (← target_is) (rw depth_is at returned-more),
           )
 
           pub come_visited : (sheet₂ queue₂ : List ℕ)
-              → (n : Result ℕ Failing) → Outcome program sheet₁ queue₁ tail₁ sheet₂ queue₂ (Back program sheet₂ (start + i) v) n
-              → Outcome program sheet queue tail sheet₂ queue₂ (Visited program sheet₂ queue₂ head (placed queue head) routines before) n
+              → (n : Result (Unit {0}) Failing) → Outcome program sheet₁ queue₁ sheet₂ queue₂ (Back program sheet₂ (start + i) v) n
+              → Outcome program sheet queue sheet₂ queue₂ (Visited program sheet₂ queue₂ head (placed queue head) routines before) n
           come_visited sheet₂ queue₂ n b =
-              outcome_after program sheet queue tail sheet₁ queue₁ tail₁ sheet₂ queue₂ _ o.0 n
-              (outcome_by program sheet₁ queue₁ tail₁ sheet₂ queue₂ (Back program sheet₂ (start + i) v)
+              outcome_after program sheet queue sheet₁ queue₁ sheet₂ queue₂ _ o.0 n
+              (outcome_by program sheet₁ queue₁ sheet₂ queue₂ (Back program sheet₂ (start + i) v)
               (Visited program sheet₂ queue₂ head (placed queue head) routines before)
-              (λ k more c.
+              (λ more c.
               let both = extended_again o.0 more in (
-                obeys_call sheet₂ queue₂ k more,
-                next-back program sheet₂ queue₂ head routines before (waiting₁ sheet₂ queue₂ k both) (passing work ret t sheet₂ queue₂ k both) target v
-                    (calls sheet₂ queue₂ k both)
+                obeys_call sheet₂ queue₂ more,
+                next-back program sheet₂ queue₂ head routines before (waiting₁ sheet₂ queue₂ both) (passing work ret t sheet₂ queue₂ both) target v
+                    (calls sheet₂ queue₂ both)
                     (from, stored_at, grown_left program sheet₁ sheet₂ more.grown target from v (rw depth_is at returned-more))
-                    (rw (place₁ sheet₂ queue₂ k both) c),
+                    (rw (place₁ sheet₂ queue₂ both) c),
               ))
               n
               b)

@@ -6,6 +6,7 @@ use native.Mathlib.Omega.{arith}
 use lib.ListN.{length, get_or, set}
 use Rattle.model.specs.Admission.{Mark, count_marked, sheet_record, record_of, sheet_of}
 use Rattle.model.specs.Admission.Mark.{unmarked, marked}
+use Rattle.worklist.specs.Worklist.{with_mark}
 use Rattle.model.proofs.Reached.{count_most}
 use Rattle.model.proofs.Rules.{not_both}
 use Rattle.model.proofs.Sheet.{record_byte_lem, record_index}
@@ -26,12 +27,6 @@ pub mark_marked : (x : Mark) (byte : ℕ) → (get_or (record_of x byte) 0 0 ≡
     → x ≡ marked (get_or (record_of x byte) 1 0) (get_or (record_of x byte) 2 0) (get_or (record_of x byte) 4 0 * 256 + get_or (record_of x byte) 5 0)
 mark_marked unmarked byte h = absurd (h refl)
 mark_marked (marked w r q) byte h = let e : q ≡ q / 256 * 256 + q % 256 = omega arith in ap (marked w r) e
-
--- a sheet after the five bytes of one more mark
-abbrev pub with_mark : List ℕ → ℕ → ℕ → ℕ → ℕ → List ℕ
-with_mark sheet i w r q =
-    set (set (set (set (set sheet (sheet_record * i) 1) (sheet_record * i + 1) w) (sheet_record * i + 2) r)
-    (sheet_record * i + 4) (q / 256)) (sheet_record * i + 5) (q % 256)
 
 -- after a record of eight bytes
 abbrev past : ℕ → ℕ

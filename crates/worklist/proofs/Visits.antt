@@ -21,9 +21,9 @@ use Rattle.model.proofs.Exactness.{T_of}
 use Rattle.rules.proofs.Instructions.{byte_is, after_brk, after_jmi, after_jci, after_jsi, after_return, after_other_lem}
 use Rattle.worklist.specs.declared.Rule.{Rule}
 use Rattle.worklist.specs.Worklist.{work_at, ret_at, routine_at, Has, Led, Marks, Obeyed, Rooted, Listed, Tested, Above, Extended, place_at, target_place, Lost, Rooting, Fails, Told}
-use Rattle.worklist.proofs.Worklist.{same_parts, grown-led, grown-floor, goes_on_lem, marked_parts, marked-inside, stands_at, sheet-length, root, root_low, root_place, floor-inside, floor_is, unextended, extended_again}
+use Rattle.worklist.proofs.Listed.{same_parts, grown-led, grown-floor, goes_on_lem, marked_parts, marked-inside, stands_at, sheet-length, root, root_low, root_place, floor-inside, floor_is, unextended, extended_again}
 
-module _ (program sheet queue : List ℕ) (tail : ℕ) (list : Listed program sheet queue tail) (i : ℕ) (here : Marks sheet (start + i)) where
+module _ (program sheet queue : List ℕ) (list : Listed program sheet queue) (i : ℕ) (here : Marks sheet (start + i)) where
   -- the place, its byte, its depths and its routine
   abbrev at : ℕ
   at = start + i
@@ -41,10 +41,10 @@ module _ (program sheet queue : List ℕ) (tail : ℕ) (list : Listed program sh
   q = routine_at sheet i
 
   pub parts : mark_in sheet at ≡ marked w r q
-  parts = marked_parts program sheet queue tail list i here
+  parts = marked_parts program sheet queue list i here
 
   rooted : Rooted program sheet q r
-  rooted = root program sheet queue tail list i here
+  rooted = root program sheet queue list i here
 
   -- ---- a rule fails
 
@@ -52,43 +52,43 @@ module _ (program sheet queue : List ℕ) (tail : ℕ) (list : Listed program sh
   told rule j h f =
       record {
         most = list.most;
-        size = sheet-length program sheet queue tail list;
-        here = marked-inside program sheet queue tail list i here;
+        size = sheet-length program sheet queue list;
+        here = marked-inside program sheet queue list i here;
         there = h;
-        stands = stands_at program sheet queue tail list i here;
+        stands = stands_at program sheet queue list i here;
         fails = f;
       }
 
   -- of no other return
   pub told_alone : (rule : Rule) → Fails program sheet rule i 0 → Told program sheet rule i 0
-  told_alone rule f = told rule 0 (omega (arith, marked-inside program sheet queue tail list i here)) f
+  told_alone rule f = told rule 0 (omega (arith, marked-inside program sheet queue list i here)) f
 
   -- its routine, by the routine's own address
   pub rooting : Rooting program sheet i
   rooting =
-      let e : start + (q - start) ≡ q = omega (arith, root_low program sheet queue tail list i here) in
+      let e : start + (q - start) ≡ q = omega (arith, root_low program sheet queue list i here) in
       let f : mark_in sheet (start + (q - start)) ≡ marked rooted.work rooted.floor q = rw e rooted.entered in
       let m : Marks sheet (start + (q - start)) = (rooted.work, rooted.floor, q, f) in
       record {
-        low = root_low program sheet queue tail list i here;
-        inside = root_place program sheet queue tail list i here;
-        stands = stands_at program sheet queue tail list (q - start) m;
-        itself = (same_parts (marked_parts program sheet queue tail list (q - start) m) f).2;
+        low = root_low program sheet queue list i here;
+        inside = root_place program sheet queue list i here;
+        stands = stands_at program sheet queue list (q - start) m;
+        itself = (same_parts (marked_parts program sheet queue list (q - start) m) f).2;
       }
 
   -- where the floor of its routine stands, and that the return depth is not below it
   pub floor_asks : (p : ℕ) → p ≡ q → (start ≤ p) × (sheet_record * (p - start) + 2 < length sheet) × (ret_at sheet (p - start) ≤ r)
   floor_asks p e =
       let f : floor (mark_in sheet) q ≡ rooted.floor = rw rooted.entered in (
-        rw e (root_low program sheet queue tail list i here),
-        rw e (omega (arith, floor-inside program sheet queue tail list i here)),
-        rw e (omega (arith, floor_is program sheet queue tail list i here, rooted.low)),
+        rw e (root_low program sheet queue list i here),
+        rw e (omega (arith, floor-inside program sheet queue list i here)),
+        rw e (omega (arith, floor_is program sheet queue list i here, rooted.low)),
       )
 
   -- what it takes lies below the floor of its routine, or above
   module _ (p : ℕ) (p-is : p ≡ q) (b : Bool) (b-is : b ≡ ltb r (ret_at sheet (p - start) + taken_from returning byte)) where
     least_is : ret_at sheet (p - start) ≡ floor (mark_in sheet) q
-    least_is = ap (λ a. ret_at sheet (a - start)) p-is ∙ floor_is program sheet queue tail list i here
+    least_is = ap (λ a. ret_at sheet (a - start)) p-is ∙ floor_is program sheet queue list i here
 
     pub too_low : (byte ≡ 0x6C → ⊥) → b ≡ true → Told program sheet Rule.BelowFloor i 0
     too_low other h =
@@ -197,7 +197,7 @@ module _ (program sheet queue : List ℕ) (tail : ℕ) (list : Listed program sh
           other = λ x.
               let e : start + (to - start) ≡ to = omega (arith, x.0) in
               let o = other x in
-              (stands_at program sheet queue tail list (to - start) (rw e o.0), λ a. o.1 (sym a.0, sym a.1, sym a.2));
+              (stands_at program sheet queue list (to - start) (rw e o.0), λ a. o.1 (sym a.0, sym a.1, sym a.2));
         }
 
     -- the target of a call, of a jump
@@ -243,12 +243,12 @@ module _ (program sheet queue : List ℕ) (tail : ℕ) (list : Listed program sh
           rw e record { led = rooted.led; work = rooted.work; floor = rooted.floor; entered = rooted.entered; low = omega (arith, t.rets) }
 
       -- a JSI whose target has its mark
-      pub call_obeyed : byte ≡ 0x60 → (sheet₁ queue₁ : List ℕ) (tail₁ : ℕ) → Listed program sheet₁ queue₁ tail₁
+      pub call_obeyed : byte ≡ 0x60 → (sheet₁ queue₁ : List ℕ) → Listed program sheet₁ queue₁
           → ((b v s p : ℕ) → mark_in sheet b ≡ marked v s p → mark_in sheet₁ b ≡ marked v s p)
           → (a : ℕ) → a ≡ target_of program at → mark_in sheet₁ a ≡ marked work ret a → Obeyed program sheet₁ at
-      call_obeyed e sheet₁ queue₁ tail₁ list₁ grown a f m =
+      call_obeyed e sheet₁ queue₁ list₁ grown a f m =
           obeyed sheet₁ grown
-          (rw (calls e, ← f) (goes_on_lem program sheet₁ queue₁ tail₁ list₁ a work ret a m, tt))
+          (rw (calls e, ← f) (goes_on_lem program sheet₁ queue₁ list₁ a work ret a m, tt))
           (λ n. above)
           (λ g. let z : ◌≡◌ {A = ℕ} 0x60 0x6C = sym e ∙ g in absurd (omega arith))
 
@@ -299,35 +299,35 @@ module _ (program sheet queue : List ℕ) (tail : ℕ) (list : Listed program sh
             → Every (GoesOn program (mark_in more)) (successors program at w r q) → Obeyed program more at
         other_obeyed more grown every = obeyed more grown every (λ n. above) (λ f. absurd (not-return f))
 
-        pub brk_ends : byte ≡ 0x00 → Extended program sheet queue tail sheet queue tail × Obeyed program sheet at
-        brk_ends e = (unextended program sheet queue tail list, other_obeyed sheet (λ b v s p f. f) (rw (ends e) tt))
+        pub brk_ends : byte ≡ 0x00 → Extended program sheet queue sheet queue × Obeyed program sheet at
+        brk_ends e = (unextended program sheet queue list, other_obeyed sheet (λ b v s p f. f) (rw (ends e) tt))
 
         -- one successor
-        one : (sheet₁ queue₁ : List ℕ) (k a : ℕ) → successors program at w r q ≡ ((a, marked work ret p) ∷ [])
-            → Extended program sheet queue tail sheet₁ queue₁ k × (mark_in sheet₁ a ≡ marked work ret p)
-            → Extended program sheet queue tail sheet₁ queue₁ k × Obeyed program sheet₁ at
-        one sheet₁ queue₁ k a e o =
-            (o.0, other_obeyed sheet₁ o.0.grown (rw e (goes_on_lem program sheet₁ queue₁ k o.0.list a work ret p o.1, tt)))
+        one : (sheet₁ queue₁ : List ℕ) (a : ℕ) → successors program at w r q ≡ ((a, marked work ret p) ∷ [])
+            → Extended program sheet queue sheet₁ queue₁ × (mark_in sheet₁ a ≡ marked work ret p)
+            → Extended program sheet queue sheet₁ queue₁ × Obeyed program sheet₁ at
+        one sheet₁ queue₁ a e o =
+            (o.0, other_obeyed sheet₁ o.0.grown (rw e (goes_on_lem program sheet₁ queue₁ o.0.list a work ret p o.1, tt)))
 
-        pub jump_ends : (sheet₁ queue₁ : List ℕ) (k : ℕ) → byte ≡ 0x40 → (a : ℕ) → a ≡ target_of program at
-            → Extended program sheet queue tail sheet₁ queue₁ k × (mark_in sheet₁ a ≡ marked work ret p)
-            → Extended program sheet queue tail sheet₁ queue₁ k × Obeyed program sheet₁ at
-        jump_ends sheet₁ queue₁ k e a f = one sheet₁ queue₁ k a (rw (f, p-is) (jumps e))
+        pub jump_ends : (sheet₁ queue₁ : List ℕ) → byte ≡ 0x40 → (a : ℕ) → a ≡ target_of program at
+            → Extended program sheet queue sheet₁ queue₁ × (mark_in sheet₁ a ≡ marked work ret p)
+            → Extended program sheet queue sheet₁ queue₁ × Obeyed program sheet₁ at
+        jump_ends sheet₁ queue₁ e a f = one sheet₁ queue₁ a (rw (f, p-is) (jumps e))
 
-        pub next_ends : (sheet₁ queue₁ : List ℕ) (k : ℕ) → (byte ≡ 0x00 → ⊥) → (byte ≡ 0x40 → ⊥) → (byte ≡ 0x20 → ⊥)
-            → Extended program sheet queue tail sheet₁ queue₁ k × (mark_in sheet₁ (start + after) ≡ marked work ret p)
-            → Extended program sheet queue tail sheet₁ queue₁ k × Obeyed program sheet₁ at
-        next_ends sheet₁ queue₁ k brk jmi jci = one sheet₁ queue₁ k (start + after) (goes brk jmi jci)
+        pub next_ends : (sheet₁ queue₁ : List ℕ) → (byte ≡ 0x00 → ⊥) → (byte ≡ 0x40 → ⊥) → (byte ≡ 0x20 → ⊥)
+            → Extended program sheet queue sheet₁ queue₁ × (mark_in sheet₁ (start + after) ≡ marked work ret p)
+            → Extended program sheet queue sheet₁ queue₁ × Obeyed program sheet₁ at
+        next_ends sheet₁ queue₁ brk jmi jci = one sheet₁ queue₁ (start + after) (goes brk jmi jci)
 
         -- two of them, one after the other
-        pub branch_ends : (sheet₁ queue₁ : List ℕ) (k : ℕ) → byte ≡ 0x20
-            → Extended program sheet queue tail sheet₁ queue₁ k × (mark_in sheet₁ (start + after) ≡ marked work ret p)
-            → (sheet₂ queue₂ : List ℕ) (b m : ℕ) → b ≡ target_of program at
-            → Extended program sheet₁ queue₁ k sheet₂ queue₂ m × (mark_in sheet₂ b ≡ marked work ret p)
-            → Extended program sheet queue tail sheet₂ queue₂ m × Obeyed program sheet₂ at
-        branch_ends sheet₁ queue₁ k e o sheet₂ queue₂ b m g x =
+        pub branch_ends : (sheet₁ queue₁ : List ℕ) → byte ≡ 0x20
+            → Extended program sheet queue sheet₁ queue₁ × (mark_in sheet₁ (start + after) ≡ marked work ret p)
+            → (sheet₂ queue₂ : List ℕ) (b : ℕ) → b ≡ target_of program at
+            → Extended program sheet₁ queue₁ sheet₂ queue₂ × (mark_in sheet₂ b ≡ marked work ret p)
+            → Extended program sheet queue sheet₂ queue₂ × Obeyed program sheet₂ at
+        branch_ends sheet₁ queue₁ e o sheet₂ queue₂ b g x =
             let both = extended_again o.0 x.0 in
-            let there = goes_on_lem program sheet₂ queue₂ m x.0.list in (
+            let there = goes_on_lem program sheet₂ queue₂ x.0.list in (
               both,
               other_obeyed sheet₂ both.grown
                   (rw (branches e, ← g) (there (start + after) work ret p (x.0.grown (start + after) work ret p o.1), (there b work ret p x.1, tt))),
@@ -335,16 +335,16 @@ module _ (program sheet queue : List ℕ) (tail : ℕ) (list : Listed program sh
 
 -- ---- with more marks
 
-module _ (program sheet queue : List ℕ) (tail : ℕ) (list : Listed program sheet queue tail) (i : ℕ) (here : Marks sheet (start + i))
-    (sheet₁ queue₁ : List ℕ) (tail₁ : ℕ) (more : Extended program sheet queue tail sheet₁ queue₁ tail₁) where
+module _ (program sheet queue : List ℕ) (list : Listed program sheet queue) (i : ℕ) (here : Marks sheet (start + i))
+    (sheet₁ queue₁ : List ℕ) (more : Extended program sheet queue sheet₁ queue₁) where
   pub here-more : Marks sheet₁ (start + i)
   here-more = (here.0, here.1, here.2, more.grown _ _ _ _ here.3)
 
   -- the record of a marked place stays
   pub same_record : Has sheet₁ i (work_at sheet i) (ret_at sheet i) (routine_at sheet i)
   same_record =
-      same_parts (marked_parts program sheet₁ queue₁ tail₁ more.list i here-more)
-      (more.grown _ _ _ _ (marked_parts program sheet queue tail list i here))
+      same_parts (marked_parts program sheet₁ queue₁ more.list i here-more)
+      (more.grown _ _ _ _ (marked_parts program sheet queue list i here))
 
   tested_more : (work ret : ℕ) → Tested program sheet i work ret → Tested program sheet₁ i work ret
   tested_more work ret t =
@@ -369,8 +369,8 @@ module _ (program sheet queue : List ℕ) (tail : ℕ) (list : Listed program sh
   unfolding decoding
   branch_astray work ret t above after p a-is p-is jsi return e sheet₂ b g o =
       let d = same_record in
-      target_astray program sheet₁ queue₁ tail₁ more.list i here-more work ret (tested_more work ret t) sheet₂ b p g
+      target_astray program sheet₁ queue₁ more.list i here-more work ret (tested_more work ret t) sheet₂ b p g
       (p-is ∙ rw (e, d.2))
       (rw e)
-      (rw (d.0, d.1, d.2) (branched_among program sheet queue tail list i here work ret t above after p a-is p-is jsi return e b g))
+      (rw (d.0, d.1, d.2) (branched_among program sheet queue list i here work ret t above after p a-is p-is jsi return e b g))
       o

@@ -10,7 +10,7 @@ use Rattle.model.specs.Machine.{start}
 use Rattle.model.specs.Admission.{admit_most, byte_at, target_of, mark_in}
 use Rattle.model.specs.Admission.Mark.{marked}
 use Rattle.worklist.specs.Worklist.{Passing, Listed, Extended, placed, Calls, Last, Back, AllBack, Left, returned_at, HasReturn, Waiting}
-use Rattle.worklist.proofs.Worklist.{same_parts, grown_left}
+use Rattle.worklist.proofs.Listed.{same_parts, grown_left}
 
 -- ---- one more place was visited
 
@@ -226,31 +226,31 @@ released_one program sheet queue q head v k j g b l =
 
 -- ---- with more marks, and more addresses in the queue
 
-module _ (program sheet queue : List ℕ) (tail : ℕ) (list : Listed program sheet queue tail) (sheet₁ queue₁ : List ℕ) (tail₁ : ℕ)
-    (more : Extended program sheet queue tail sheet₁ queue₁ tail₁) where
-  same_place : (k : ℕ) → k < tail → placed queue₁ k ≡ placed queue k
+module _ (program sheet queue : List ℕ) (list : Listed program sheet queue) (sheet₁ queue₁ : List ℕ)
+    (more : Extended program sheet queue sheet₁ queue₁) where
+  same_place : (k : ℕ) → k < length queue → placed queue₁ k ≡ placed queue k
   same_place k h = ap (λ i. start + i) (more.kept k h)
 
-  pub same_calls : (q k : ℕ) → k < tail → Calls program queue₁ q k → Calls program queue q k
+  pub same_calls : (q k : ℕ) → k < length queue → Calls program queue₁ q k → Calls program queue q k
   same_calls q k h c = rw (same_place k h) at c
 
-  calls_same : (q k : ℕ) → k < tail → Calls program queue q k → Calls program queue₁ q k
+  calls_same : (q k : ℕ) → k < length queue → Calls program queue q k → Calls program queue₁ q k
   calls_same q k h c = rw (same_place k h) c
 
   -- the mark of a place that was in the queue
-  old_mark : (k w r q : ℕ) → k < tail → mark_in sheet₁ (placed queue₁ k) ≡ marked w r q → mark_in sheet (placed queue k) ≡ marked w r q
+  old_mark : (k w r q : ℕ) → k < length queue → mark_in sheet₁ (placed queue₁ k) ≡ marked w r q → mark_in sheet (placed queue k) ≡ marked w r q
   old_mark k w r q h e =
       let m = list.listed k h in
       let d = same_parts (more.grown _ _ _ _ m.3) (rw (same_place k h) at e) in
       rw (← d.0, ← d.1, ← d.2) m.3
 
-  pub more-back : (k v : ℕ) → k < tail → Back program sheet (placed queue k) v → Back program sheet₁ (placed queue₁ k) v
+  pub more-back : (k v : ℕ) → k < length queue → Back program sheet (placed queue k) v → Back program sheet₁ (placed queue₁ k) v
   more-back k v h b w r q e = rw (same_place k h) (more.grown _ v r q (b w r q (old_mark k w r q h e)))
 
-  pub more_passing : (k : ℕ) → k < tail → Passing program sheet (placed queue k) → Passing program sheet₁ (placed queue₁ k)
+  pub more_passing : (k : ℕ) → k < length queue → Passing program sheet (placed queue k) → Passing program sheet₁ (placed queue₁ k)
   more_passing k h f w r q e = rw (same_place k h) (f w r q (old_mark k w r q h e))
 
-  pub more_last : (q n j : ℕ) → n ≤ tail → Last program queue q n j → Last program queue₁ q n j
+  pub more_last : (q n j : ℕ) → n ≤ length queue → Last program queue q n j → Last program queue₁ q n j
   more_last q n j h l =
       record {
         low = l.low;
@@ -258,7 +258,7 @@ module _ (program sheet queue : List ℕ) (tail : ℕ) (list : Listed program sh
         none = λ k a b c. l.none k a b (same_calls q k (omega arith) c);
       }
 
-  pub more-waiting : (head : ℕ) (routines before : List ℕ) → head ≤ tail → Waiting program sheet queue head routines before
+  pub more-waiting : (head : ℕ) (routines before : List ℕ) → head ≤ length queue → Waiting program sheet queue head routines before
       → Waiting program sheet₁ queue₁ head routines before
   more-waiting head routines before h g =
       record {
@@ -281,7 +281,7 @@ module _ (program sheet queue : List ℕ) (tail : ℕ) (list : Listed program sh
           let d = same_parts (more.grown _ _ _ _ y.1.here) x.here in
           (j, e, rw d.0 at y.1)
 
-  pub more_released : (q head v j : ℕ) → head ≤ tail → Released program sheet queue q head v j → Released program sheet₁ queue₁ q head v j
+  pub more_released : (q head v j : ℕ) → head ≤ length queue → Released program sheet queue q head v j → Released program sheet₁ queue₁ q head v j
   more_released q head v j h g =
       record {
         low = g.low;

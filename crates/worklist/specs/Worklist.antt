@@ -1,7 +1,7 @@
 -- What the worklist of an admission keeps, while it visits the addresses that are reached from 0100. Inside the crates of admission only:
 -- the contract of `admit` does not cite it.
 -- Assumes nothing.
-use Rattle.std.specs.Prelude.{◌≡◌, ◌⊎◌, Bool, true, false, cond, not, List, [], ◌∷◌, ℕ, suc, ◌+◌, ◌-◌, ◌*◌, ◌/◌, ◌%◌, ◌≤◌, ◌<◌, T, eqb, length, get_or, Option, Some, None, Result, Ok, Err}
+use Rattle.std.specs.Prelude.{◌≡◌, ◌⊎◌, Bool, true, false, cond, not, List, [], ◌∷◌, ℕ, suc, ◌+◌, ◌-◌, ◌*◌, ◌/◌, ◌%◌, ◌≤◌, ◌<◌, T, eqb, length, get_or, set, Result, Ok, Err}
 use Rattle.model.specs.Machine.{start}
 use Rattle.model.specs.Instruction.{working, returning, taken_from, length_of}
 use Rattle.model.specs.Admission.{Mark, count_marked, admit_most, byte_at, Within, allowed, depth_after, after_of, target_of, Way, Called, floor, Rules, sheet_record, sheet_of, mark_in}
@@ -9,6 +9,8 @@ use Rattle.model.specs.Admission.Mark.{marked}
 use Rattle.model.specs.Reasons.{Passes, Passable, Stands, GoesTo, Alike}
 use Rattle.model.specs.declared.Place.{Place}
 use Rattle.worklist.specs.declared.Rule.{Rule}
+use Rattle.worklist.specs.declared.Routines.{Routines}
+use Rattle.worklist.specs.declared.Worklist.{Worklist}
 
 -- the depths and the routine in the record of place i
 abbrev pub work_at : List ℕ → ℕ → ℕ
@@ -19,6 +21,12 @@ ret_at sheet i = get_or sheet (sheet_record * i + 2) 0
 
 abbrev pub routine_at : List ℕ → ℕ → ℕ
 routine_at sheet i = get_or sheet (sheet_record * i + 4) 0 * 256 + get_or sheet (sheet_record * i + 5) 0
+
+-- the sheet after the bytes of a mark in the record of place i
+abbrev pub with_mark : List ℕ → ℕ → ℕ → ℕ → ℕ → List ℕ
+with_mark sheet i w r q =
+    set (set (set (set (set sheet (sheet_record * i) 1) (sheet_record * i + 1) w) (sheet_record * i + 2) r)
+    (sheet_record * i + 4) (q / 256)) (sheet_record * i + 5) (q % 256)
 
 -- it has these, or not
 abbrev pub Has : List ℕ → ℕ → ℕ → ℕ → ℕ → Type 0
@@ -58,22 +66,21 @@ pub record Rooted (program sheet : List ℕ) (q ret : ℕ) : Type 0 where
 abbrev pub Roots : List ℕ → List ℕ → ℕ → ℕ → ℕ → Type 0
 Roots program sheet at ret q = (Called program (mark_in sheet) q × (at ≡ q)) ⊎ Rooted program sheet q ret
 
--- The first `tail` places of the queue hold the marked addresses, counted from 0100.
-pub record Listed (program sheet queue : List ℕ) (tail : ℕ) : Type 0 where
+-- The queue holds the marked addresses, counted from 0100.
+pub record Listed (program sheet queue : List ℕ) : Type 0 where
   pub most : length program ≤ admit_most
-  pub spaces : length queue ≡ admit_most
   -- the sheet is that of some marks, as many as the queue has addresses
   pub marks : List Mark
   pub size : length marks ≡ length program
   pub written : sheet ≡ sheet_of marks program
-  pub counted : tail ≡ count_marked marks
+  pub counted : length queue ≡ count_marked marks
   -- 0100 is marked with 0 and 0, and only what is reached on a passable way is marked
   pub first : mark_in sheet start ≡ marked 0 0 start
   pub ways : (at w r q : ℕ) → mark_in sheet at ≡ marked w r q → Led program at w r q
   pub rooted : (at w r q : ℕ) → mark_in sheet at ≡ marked w r q → Rooted program sheet q r
   -- what is in the queue is marked, and what is marked is in the queue
-  pub listed : (k : ℕ) → k < tail → Marks sheet (start + get_or queue k 0)
-  pub covers : (at w r q : ℕ) → mark_in sheet at ≡ marked w r q → (k : ℕ) × (k < tail) × (at ≡ start + get_or queue k 0)
+  pub listed : (k : ℕ) → k < length queue → Marks sheet (start + get_or queue k 0)
+  pub covers : (at w r q : ℕ) → mark_in sheet at ≡ marked w r q → (k : ℕ) × (k < length queue) × (at ≡ start + get_or queue k 0)
 
 -- The rules of depths but the last hold at place i, with the depths of its record: the depths after it.
 pub record Tested (program sheet : List ℕ) (i work ret : ℕ) : Type 0 where
@@ -93,18 +100,18 @@ abbrev pub Above : List ℕ → List ℕ → ℕ → Type 0
 Above program sheet i = floor (mark_in sheet) (routine_at sheet i) + taken_from returning (get_or program i 0) ≤ ret_at sheet i
 
 -- Afterwards the sheet has the same marks and perhaps more, and the queue the same addresses and perhaps more.
-pub record Extended (program sheet queue : List ℕ) (tail : ℕ) (sheet_after queue_after : List ℕ) (tail_after : ℕ) : Type 0 where
-  pub list : Listed program sheet_after queue_after tail_after
+pub record Extended (program sheet queue sheet_after queue_after : List ℕ) : Type 0 where
+  pub list : Listed program sheet_after queue_after
   pub grown : (at w r q : ℕ) → mark_in sheet at ≡ marked w r q → mark_in sheet_after at ≡ marked w r q
-  pub kept : (k : ℕ) → k < tail → get_or queue_after k 0 ≡ get_or queue k 0
-  pub longer : tail ≤ tail_after
+  pub kept : (k : ℕ) → k < length queue → get_or queue_after k 0 ≡ get_or queue k 0
+  pub longer : length queue ≤ length queue_after
 
 -- The address is outside the program or has another mark, and nothing was written; or it has this one.
-abbrev pub Marking : (program sheet queue : List ℕ) → ℕ → (sheet_after queue_after : List ℕ) → (at w r q : ℕ) → Option ℕ → Type 0
-Marking program sheet queue tail sheet_after queue_after at w r q None =
+abbrev pub Marking : (program sheet queue sheet_after queue_after : List ℕ) → (at w r q : ℕ) → Bool → Type 0
+Marking program sheet queue sheet_after queue_after at w r q false =
     (sheet_after ≡ sheet) × (Within program at → Marks sheet at × (Has sheet (at - start) w r q → ⊥))
-Marking program sheet queue tail sheet_after queue_after at w r q (Some t) =
-    Extended program sheet queue tail sheet_after queue_after t × (mark_in sheet_after at ≡ marked w r q)
+Marking program sheet queue sheet_after queue_after at w r q true =
+    Extended program sheet queue sheet_after queue_after × (mark_in sheet_after at ≡ marked w r q)
 
 -- ---- a rule fails
 
@@ -225,9 +232,9 @@ abbrev pub failing_of : ℕ → Failing
 failing_of n = record { rule = rule_in n; at = place_in n; other = other_in n }
 
 -- A rule fails; or the worklist goes on, and P holds.
-abbrev pub Outcome : (program sheet queue : List ℕ) → ℕ → (sheet_after queue_after : List ℕ) → Type 0 → Result ℕ Failing → Type 0
-Outcome program sheet queue tail sheet_after queue_after P (Err fault) = ToldIn program sheet_after fault
-Outcome program sheet queue tail sheet_after queue_after P (Ok t) = Extended program sheet queue tail sheet_after queue_after t × P
+abbrev pub Outcome : (program sheet queue sheet_after queue_after : List ℕ) → Type 0 → Result (Unit {0}) Failing → Type 0
+Outcome program sheet queue sheet_after queue_after P (Err fault) = ToldIn program sheet_after fault
+Outcome program sheet queue sheet_after queue_after P (Ok done) = Extended program sheet queue sheet_after queue_after × P
 
 -- ---- calls and returns, among the first `head` places of the queue, which were visited
 
@@ -254,8 +261,8 @@ abbrev pub AllBack : (program sheet queue : List ℕ) → ℕ → ℕ → ℕ �
 AllBack program sheet queue q n v = (k : ℕ) → k < n → Calls program queue q k → Back program sheet (placed queue k) v
 
 -- the calls of q, the last of them at place n - 1: `before` leads from each to the one before it
-pub record Chain (program sheet queue : List ℕ) (tail : ℕ) (before : List ℕ) (q n : ℕ) : Type 0 where
-  pub low : n ≤ tail
+pub record Chain (program sheet queue : List ℕ) (before : List ℕ) (q n : ℕ) : Type 0 where
+  pub low : n ≤ length queue
   pub passed : (k : ℕ) → k < n → Passing program sheet (placed queue k)
   pub this : (k : ℕ) → n ≡ suc k → Calls program queue q k
   pub befores : (k : ℕ) → k < n → Calls program queue q k → Last program queue q k (get_or before k 0)
@@ -291,12 +298,35 @@ pub record Waiting (program sheet queue : List ℕ) (head : ℕ) (routines befor
       → Last program queue q k (get_or before k 0)
 
 -- Place `head` of the queue comes next.
-pub record Visit (program sheet queue : List ℕ) (tail head : ℕ) (routines before : List ℕ) : Type 0 where
-  pub list : Listed program sheet queue tail
+pub record Visit (program sheet queue : List ℕ) (head : ℕ) (routines before : List ℕ) : Type 0 where
+  pub list : Listed program sheet queue
   pub waiting : Waiting program sheet queue head routines before
-  pub low : head < tail
+  pub low : head < length queue
 
 -- The address there obeys the rules, and was visited.
 abbrev pub Visited : (program sheet queue : List ℕ) → ℕ → ℕ → (routines before : List ℕ) → Type 0
 Visited program sheet queue head at routines before =
     Obeyed program sheet at × Waiting program sheet queue (head + 1) routines before
+
+-- ---- the same of a worklist, which has the program, the sheet and the queue
+
+-- it has the same program afterwards, and the same sheet
+abbrev pub Same : Worklist → Worklist → Type 0
+Same old new = (new.sheet.ghost_name ≡ old.sheet.ghost_name) × (new.program.now ≡ old.program.now)
+
+abbrev pub IsListed : Worklist → Type 0
+IsListed list = Listed list.program.now list.sheet.now list.queue.items
+
+abbrev pub Marked : Worklist → Worklist → (at w r q : ℕ) → Bool → Type 0
+Marked old new = Marking old.program.now old.sheet.now old.queue.items new.sheet.now new.queue.items
+
+abbrev pub Ends : Worklist → Worklist → Type 0 → Result (Unit {0}) Failing → Type 0
+Ends old new = Outcome old.program.now old.sheet.now old.queue.items new.sheet.now new.queue.items
+
+abbrev pub Visiting : Worklist → ℕ → Routines → Type 0
+Visiting list head routines = Visit list.program.now list.sheet.now list.queue.items head routines.known routines.before
+
+-- what comes of place `head` of the queue
+abbrev pub VisitEnds : Worklist → Worklist → ℕ → Routines → Result (Unit {0}) Failing → Type 0
+VisitEnds old new head routines =
+    Ends old new (Visited old.program.now new.sheet.now new.queue.items head (placed old.queue.items head) routines.known routines.before)

@@ -2,12 +2,13 @@
 // a call or another instruction does.
 #![tactic(auto)]
 
-ghost use Rattle.std.specs.Prelude.{◌≡◌, ℕ, ◌+◌, ◌*◌, ◌-◌, ◌/◌, ◌%◌, ◌≤◌, ◌<◌, length, get_or, set};
+ghost use Rattle.std.specs.Prelude.{◌≡◌, ℕ, ◌+◌, ◌*◌, ◌-◌, ◌/◌, ◌%◌, ◌≤◌, ◌<◌, length, get_or, replicate, [], ◌∷◌};
 ghost use Rattle.model.specs.Machine.{start};
 ghost use Rattle.model.specs.Instruction.{length_of};
 ghost use Rattle.model.specs.Admission.{admit_most, byte_at, target_of, sheet_record};
-ghost use Rattle.worklist.specs.Worklist.{routine_at, Agrees, Led, Marks, Passing, Obeyed, Roots, Listed, Tested, Above, Marking, Outcome, placed, Back, AllBack, Left, Chain, Visit, Visited};
+ghost use Rattle.worklist.specs.Worklist.{routine_at, with_mark, Agrees, Led, Marks, Passing, Obeyed, Roots, Tested, Above, Back, AllBack, Left, Chain, Same, IsListed, Marked, Ends, Visiting, VisitEnds};
 
+use arrayvec::ArrayVec;
 use model::START;
 use rules::jump_target;
 use stack::two_bytes;
@@ -28,8 +29,7 @@ pub const JSI: u8 = 0x60;
 // JMP in 16-bit return form without keep.
 pub const RETURN: u8 = 0x6C;
 
-// What `routines` has for the routine at a place of the program: the number, from 1, of the place in the queue with the routine's last
-// call, or 0, if there is none; once a return of it was visited, RETURNED and the place of the first one.
+// What `Routines` has for a routine whose first return stands at place 0 of the program: more than the number of any place in the queue.
 const RETURNED: u16 = 4097;
 
 // ---- a rule that fails
@@ -57,10 +57,10 @@ pub enum Rule {
 const RULES: usize = 16;
 
 // A program "above 4,096 bytes" is not admitted.
-pub const PLACES: usize = 4096;
+const PLACES: usize = 4096;
 
-// A number for each place of a program, or for each place of the queue, which lists some of them.
-pub type Places = [u16; PLACES];
+// A number for each place of a program, or for each place of the queue, which has some of them.
+type Places = [u16; PLACES];
 
 // A rule that fails, the place of the program where it fails, and the place of a return of which it speaks too, or 0. They are one number,
 // as the length of the queue is, so that the loop of the visits has one register for either.
@@ -124,8 +124,7 @@ impl Fault {
 // to 11 % more instructions.
 pub fn mark(sheet: &mut [u8], i: usize, work: u8, ret: u8, routine: u16)
     requires { sheet_record * i + 5 < length sheet.old }
-    ensures { sheet.new ≡ set (set (set (set (set sheet.old (sheet_record * i) 1) (sheet_record * i + 1) work) (sheet_record * i + 2) ret)
-        (sheet_record * i + 4) (routine / 256)) (sheet_record * i + 5) (routine % 256) }
+    ensures { sheet.new ≡ with_mark sheet.old i work ret routine }
 {
     let place = SHEET_RECORD * i;
     sheet[place] = 1;
@@ -144,225 +143,273 @@ pub fn routine_of(sheet: &[u8], i: usize) -> u16
     two_bytes(sheet[place + 4], sheet[place + 5])
 }
 
-// The floor of a routine: the return depth in the record of its own address.
-pub fn floor_of(sheet: &[u8], routine: u16) -> u8
-    requires { (start ≤ routine) × (sheet_record * (routine - start) + 2 < length sheet.now) }
-    ensures { result ≡ get_or sheet.now (sheet_record * (routine - start) + 2) 0 }
-{
-    sheet[SHEET_RECORD * usize::from(routine - START) + 2]
+// ---- what is known of routines
+
+// `known` has, at a routine's place in the program, the number, from 1, of the place in the queue with its last call that was visited, or 0,
+// if there is none; once a return of it was visited, RETURNED and the place of the first one. `before` has, for a place of the queue with a
+// call, the number of the place with the call before it, as `known` has the last. Places of the program count the one, places of the queue
+// the other, so they are no array of pairs.
+#[derive(Drop)]
+pub struct Routines {
+    known: Places,
+    before: Places,
 }
 
-// The record of place i has these depths and this routine.
-fn agrees(sheet: &[u8], i: usize, work: u8, ret: u8, routine: u16) -> bool
-    requires { sheet_record * i + 5 < length sheet.now }
-    ensures { Agrees sheet.now i work ret routine result }
-{
-    let place = SHEET_RECORD * i;
-    sheet[place + 1] == work
-        && sheet[place + 2] == ret
-        && sheet[place + 4] == (routine / 256) as u8
-        && sheet[place + 5] == (routine % 256) as u8
-}
-
-// The address is one where the program goes on, with these depths and in this routine: it is marked and put into the queue,
-// unless it is marked.
-fn reach(
-    program: &[u8],
-    sheet: &mut [u8],
-    queue: &mut Places,
-    tail: usize,
-    at: u16,
-    work: u8,
-    ret: u8,
-    routine: u16,
-) -> Option<usize>
-    requires { Listed program.now sheet.old queue.old tail × Led program.now at work ret routine × Roots program.now sheet.old at ret routine }
-    ensures { Marking program.now sheet.old queue.old tail sheet.new queue.new at work ret routine result }
-{
-    let offset = at.checked_sub(START)?;
-    let i = usize::from(offset);
-    if program.len() <= i {
-        return None;
-    }
-    if sheet[SHEET_RECORD * i] == 0 {
-        mark(sheet, i, work, ret, routine);
-        queue[tail] = offset;
-        return Some(tail + 1);
-    }
-    if agrees(sheet, i, work, ret, routine) {
-        return Some(tail);
-    }
-    None
-}
-
-// "The address after the call" at place i: its routine has a return at place `from`, with this working depth.
-fn come_back(
-    program: &[u8],
-    sheet: &mut [u8],
-    queue: &mut Places,
-    tail: usize,
-    i: usize,
-    from: usize,
-    work: u8,
-) -> Result<usize, Fault>
-    requires { Listed program.now sheet.old queue.old tail × Marks sheet.old (start + i) × (byte_at program.now (start + i) ≡ 0x60)
-        × Passing program.now sheet.old (start + i) × Left program.now sheet.old (target_of program.now (start + i)) from work }
-    ensures { Outcome program.now sheet.old queue.old tail sheet.new queue.new
-        (Back program.now sheet.new (start + i) work) result }
-{
-    let ret = sheet[SHEET_RECORD * i + 2];
-    let routine = routine_of(sheet, i);
-    let after = START + (i + 3) as u16;
-    let Some(more) = reach(program, sheet, queue, tail, after, work, ret, routine) else {
-        return Err(Fault::new(Rule::Back, i, from));
-    };
-    Ok(more)
-}
-
-// The first return of the routine at place `entry` of the program stands at place `from`, with this working depth: each call of the
-// routine that was visited goes on, the last one first. `before` has, for a place of the queue with a call, the number of the place
-// with the call before it, as `routines` has the last. A chain: no `for`.
-fn release(
-    program: &[u8],
-    sheet: &mut [u8],
-    queue: &mut Places,
-    tail: usize,
-    routines: &Places,
-    before: &Places,
-    entry: usize,
-    from: usize,
-    work: u8,
-) -> Result<usize, Fault>
-    requires { Listed program.now sheet.old queue.old tail × Chain program.now sheet.old queue.old tail before.now (start + entry) (get_or routines.now entry 0)
-        × Left program.now sheet.old (start + entry) from work × (entry < admit_most) }
-    ensures { Outcome program.now sheet.old queue.old tail sheet.new queue.new
-        (AllBack program.now sheet.new queue.new (start + entry) (get_or routines.now entry 0) work) result }
-{
-    let mut j = usize::from(routines[entry]);
-    let mut most = tail;
-    while 0 < j {
-        let k = j - 1;
-        let i = usize::from(queue[k]);
-        most = come_back(program, sheet, queue, most, i, from, work)?;
-        j = usize::from(before[k]);
-    }
-    Ok(most)
-}
-
-// 6C at place `head` of the queue.
-pub fn leave(
-    program: &[u8],
-    sheet: &mut [u8],
-    queue: &mut Places,
-    tail: usize,
-    head: usize,
-    routines: &mut Places,
-    before: &Places,
-) -> Result<usize, Fault>
-    requires { Visit program.now sheet.old queue.old tail head routines.old before.now
-        × (get_or program.now (get_or queue.old head 0) 0 ≡ 0x6C)
-        × ((work : ℕ) × (ret : ℕ) × Tested program.now sheet.old (get_or queue.old head 0) work ret) }
-    ensures { Outcome program.now sheet.old queue.old tail sheet.new queue.new
-        (Visited program.now sheet.new queue.new head (placed queue.old head) routines.new before.now) result }
-{
-    let i = usize::from(queue[head]);
-    let routine = routine_of(sheet, i);
-    let entry = usize::from(routine - START);
-    // "it stands only at the floor"
-    if floor_of(sheet, routine) != sheet[SHEET_RECORD * i + 2] {
-        return Err(Fault::new(Rule::ReturnOffFloor, i, 0));
-    }
-    // "and leaves with one working depth for the whole routine"
-    let work = sheet[SHEET_RECORD * i + 1];
-    let known = routines[entry];
-    if RETURNED <= known {
-        let other = usize::from(known - RETURNED);
-        if sheet[SHEET_RECORD * other + 1] == work {
-            return Ok(tail);
+impl Routines {
+    pub fn new() -> Self
+        ensures { (result.known ≡ replicate admit_most 0) × (result.before ≡ replicate admit_most 0) }
+    {
+        Routines {
+            known: [0; PLACES],
+            before: [0; PLACES],
         }
-        return Err(Fault::new(Rule::ReturnsDiffer, i, other));
     }
-    let next = release(
-        program, sheet, queue, tail, routines, before, entry, i, work,
-    );
-    routines[entry] = RETURNED + i as u16;
-    next
 }
 
-// JSI at place i, which is place `head` of the queue, with the depths after it.
-pub fn call(
-    program: &[u8],
-    sheet: &mut [u8],
-    queue: &mut Places,
-    tail: usize,
-    head: usize,
-    routines: &mut Places,
-    before: &mut Places,
-    i: usize,
-    work: u8,
-    ret: u8,
-) -> Result<usize, Fault>
-    requires { Visit program.now sheet.old queue.old tail head routines.old before.old × (i ≡ get_or queue.old head 0)
-        × Tested program.now sheet.old i work ret × Above program.now sheet.old i × (get_or program.now i 0 ≡ 0x60) }
-    ensures { Outcome program.now sheet.old queue.old tail sheet.new queue.new
-        (Visited program.now sheet.new queue.new head (placed queue.old head) routines.new before.new) result }
-{
-    let target = jump_target(program, i);
-    let Some(more) = reach(program, sheet, queue, tail, target, work, ret, target) else {
-        return Err(Fault::new(Rule::Target, i, 0));
-    };
-    let entry = usize::from(target - START);
-    let known = routines[entry];
-    if known < RETURNED {
-        before[head] = known;
-        routines[entry] = (head + 1) as u16;
-        return Ok(more);
-    }
-    let from = usize::from(known - RETURNED);
-    let back = sheet[SHEET_RECORD * from + 1];
-    come_back(program, sheet, queue, more, i, from, back)
+// ---- the worklist
+
+// A program, its sheet, and a queue of the places of the marked addresses, in the order in which they were found.
+// That the queue has what the sheet marks stands in the clauses (`IsListed`). A fact on a struct with a `&mut` has to hold at each write
+// through it, and this one does not between a mark and its place in the queue; behind a model, nothing is known of the sheet once the
+// struct ends.
+#[derive(Drop)]
+pub struct Worklist<'a> {
+    pub program: &'a [u8],
+    pub sheet: &'a mut [u8],
+    pub queue: ArrayVec<u16, PLACES>,
 }
 
-// "each address where it may go on (after it; for JMI its target; for JCI both)" from place i, with these depths and in this
-// routine. "BRK goes nowhere."
-pub fn follow(
-    program: &[u8],
-    sheet: &mut [u8],
-    queue: &mut Places,
-    tail: usize,
-    i: usize,
-    after: usize,
-    work: u8,
-    ret: u8,
-    routine: u16,
-) -> Result<usize, Fault>
-    requires { Listed program.now sheet.old queue.old tail × Marks sheet.old (start + i) × Tested program.now sheet.old i work ret
-        × Above program.now sheet.old i × (after ≡ i + length_of (get_or program.now i 0)) × (routine ≡ routine_at sheet.old i)
-        × (get_or program.now i 0 ≡ 0x60 → ⊥) × (get_or program.now i 0 ≡ 0x6C → ⊥) }
-    ensures { Outcome program.now sheet.old queue.old tail sheet.new queue.new
-        (Obeyed program.now sheet.new (start + i)) result }
-{
-    let byte = program[i];
-    if byte == BRK {
-        return Ok(tail);
+impl<'a> Worklist<'a> {
+    // 0100 alone is marked.
+    pub fn new(program: &'a [u8], sheet: &'a mut [u8]) -> Self
+        requires { 5 < length sheet.old }
+        ensures same { (result.sheet.ghost_name ≡ sheet.entry.ghost_name) × (result.program.now ≡ program.now) }
+        ensures first { (result.sheet.now ≡ with_mark sheet.old 0 0 0 start) × (result.queue.items ≡ 0 ∷ []) }
+    {
+        mark(sheet, 0, 0, 0, START);
+        let mut queue = ArrayVec::new();
+        queue.push(0);
+        Worklist {
+            program,
+            sheet,
+            queue,
+        }
     }
-    if byte == JMI {
-        let target = jump_target(program, i);
-        let Some(more) = reach(program, sheet, queue, tail, target, work, ret, routine) else {
+
+    // How many places are in the queue.
+    pub fn listed(&self) -> usize
+        ensures { result ≡ length self.now.queue.items }
+    {
+        self.queue.len()
+    }
+
+    // The place of the program at place `head` of the queue.
+    pub fn place(&self, head: usize) -> usize
+        requires { head < length self.now.queue.items }
+        ensures { result ≡ get_or self.now.queue.items head 0 }
+    {
+        usize::from(self.queue[head])
+    }
+
+    // The routine in the record of place i.
+    pub fn routine(&self, i: usize) -> u16
+        requires { sheet_record * i + 5 < length self.now.sheet.now }
+        ensures { result ≡ routine_at self.now.sheet.now i }
+    {
+        routine_of(self.sheet, i)
+    }
+
+    // The floor of a routine: the return depth in the record of its own address.
+    pub fn floor(&self, routine: u16) -> u8
+        requires { (start ≤ routine) × (sheet_record * (routine - start) + 2 < length self.now.sheet.now) }
+        ensures { result ≡ get_or self.now.sheet.now (sheet_record * (routine - start) + 2) 0 }
+    {
+        self.sheet[SHEET_RECORD * usize::from(routine - START) + 2]
+    }
+
+    // The record of place i has these depths and this routine.
+    fn agrees(&self, i: usize, work: u8, ret: u8, routine: u16) -> bool
+        requires { sheet_record * i + 5 < length self.now.sheet.now }
+        ensures { Agrees self.now.sheet.now i work ret routine result }
+    {
+        let sheet = &*self.sheet;
+        let place = SHEET_RECORD * i;
+        sheet[place + 1] == work
+            && sheet[place + 2] == ret
+            && sheet[place + 4] == (routine / 256) as u8
+            && sheet[place + 5] == (routine % 256) as u8
+    }
+
+    // Place i of the program is one where it goes on, with these depths and in this routine: it is marked and put into the queue, unless it
+    // is marked.
+    fn reach_place(&mut self, i: usize, work: u8, ret: u8, routine: u16) -> bool
+        requires { IsListed self.old × Led self.old.program.now (start + i) work ret routine
+            × Roots self.old.program.now self.old.sheet.now (start + i) ret routine }
+        ensures same { Same self.old self.new }
+        ensures marked { Marked self.old self.new (start + i) work ret routine result }
+    {
+        if self.program.len() <= i {
+            return false;
+        }
+        if self.sheet[SHEET_RECORD * i] == 0 {
+            mark(self.sheet, i, work, ret, routine);
+            self.queue.push(i as u16);
+            return true;
+        }
+        self.agrees(i, work, ret, routine)
+    }
+
+    // The same of an address.
+    fn reach(&mut self, at: u16, work: u8, ret: u8, routine: u16) -> bool
+        requires { IsListed self.old × Led self.old.program.now at work ret routine
+            × Roots self.old.program.now self.old.sheet.now at ret routine }
+        ensures same { Same self.old self.new }
+        ensures marked { Marked self.old self.new at work ret routine result }
+    {
+        START <= at && self.reach_place(usize::from(at - START), work, ret, routine)
+    }
+
+    // "The address after the call" at place i: its routine has a return at place `from`, with this working depth.
+    fn come_back(&mut self, i: usize, from: usize, work: u8) -> Result<(), Fault>
+        requires { IsListed self.old × Marks self.old.sheet.now (start + i) × (byte_at self.old.program.now (start + i) ≡ 0x60)
+            × Passing self.old.program.now self.old.sheet.now (start + i)
+            × Left self.old.program.now self.old.sheet.now (target_of self.old.program.now (start + i)) from work }
+        ensures same { Same self.old self.new }
+        ensures ends { Ends self.old self.new (Back self.old.program.now self.new.sheet.now (start + i) work) result }
+    {
+        let ret = self.sheet[SHEET_RECORD * i + 2];
+        let routine = self.routine(i);
+        if !self.reach_place(i + 3, work, ret, routine) {
+            return Err(Fault::new(Rule::Back, i, from));
+        }
+        Ok(())
+    }
+
+    // The first return of the routine at place `entry` of the program stands at place `from`, with this working depth: each call of the
+    // routine that was visited goes on, the last one first. A chain: no `for`.
+    fn release(
+        &mut self,
+        routines: &Routines,
+        entry: usize,
+        from: usize,
+        work: u8,
+    ) -> Result<(), Fault>
+        requires { IsListed self.old × Chain self.old.program.now self.old.sheet.now self.old.queue.items routines.now.before
+            (start + entry) (get_or routines.now.known entry 0)
+            × Left self.old.program.now self.old.sheet.now (start + entry) from work × (entry < admit_most) }
+        ensures same { Same self.old self.new }
+        ensures ends { Ends self.old self.new (AllBack self.old.program.now self.new.sheet.now self.new.queue.items
+            (start + entry) (get_or routines.now.known entry 0) work) result }
+    {
+        let mut j = usize::from(routines.known[entry]);
+        while 0 < j {
+            let k = j - 1;
+            let i = self.place(k);
+            self.come_back(i, from, work)?;
+            j = usize::from(routines.before[k]);
+        }
+        Ok(())
+    }
+
+    // 6C at place `head` of the queue.
+    pub fn leave(&mut self, head: usize, routines: &mut Routines) -> Result<(), Fault>
+        requires { Visiting self.old head routines.old × (get_or self.old.program.now (get_or self.old.queue.items head 0) 0 ≡ 0x6C)
+            × ((work : ℕ) × (ret : ℕ) × Tested self.old.program.now self.old.sheet.now (get_or self.old.queue.items head 0) work ret) }
+        ensures same { Same self.old self.new }
+        ensures ends { VisitEnds self.old self.new head routines.new result }
+    {
+        let i = self.place(head);
+        let routine = self.routine(i);
+        let entry = usize::from(routine - START);
+        // "it stands only at the floor"
+        if self.floor(routine) != self.sheet[SHEET_RECORD * i + 2] {
+            return Err(Fault::new(Rule::ReturnOffFloor, i, 0));
+        }
+        // "and leaves with one working depth for the whole routine"
+        let work = self.sheet[SHEET_RECORD * i + 1];
+        let known = routines.known[entry];
+        if RETURNED <= known {
+            let other = usize::from(known - RETURNED);
+            if self.sheet[SHEET_RECORD * other + 1] == work {
+                return Ok(());
+            }
+            return Err(Fault::new(Rule::ReturnsDiffer, i, other));
+        }
+        let next = self.release(routines, entry, i, work);
+        routines.known[entry] = RETURNED + i as u16;
+        next
+    }
+
+    // JSI at place i, which is place `head` of the queue, with the depths after it.
+    pub fn call(
+        &mut self,
+        head: usize,
+        routines: &mut Routines,
+        i: usize,
+        work: u8,
+        ret: u8,
+    ) -> Result<(), Fault>
+        requires { Visiting self.old head routines.old × (i ≡ get_or self.old.queue.items head 0)
+            × Tested self.old.program.now self.old.sheet.now i work ret × Above self.old.program.now self.old.sheet.now i
+            × (get_or self.old.program.now i 0 ≡ 0x60) }
+        ensures same { Same self.old self.new }
+        ensures ends { VisitEnds self.old self.new head routines.new result }
+    {
+        let target = jump_target(self.program, i);
+        if !self.reach(target, work, ret, target) {
             return Err(Fault::new(Rule::Target, i, 0));
-        };
-        return Ok(more);
+        }
+        let entry = usize::from(target - START);
+        let known = routines.known[entry];
+        if known < RETURNED {
+            routines.before[head] = known;
+            routines.known[entry] = (head + 1) as u16;
+            return Ok(());
+        }
+        let from = usize::from(known - RETURNED);
+        let back = self.sheet[SHEET_RECORD * from + 1];
+        self.come_back(i, from, back)
     }
-    let next = START + after as u16;
-    let Some(more) = reach(program, sheet, queue, tail, next, work, ret, routine) else {
-        return Err(Fault::new(Rule::After, i, 0));
-    };
-    if byte != JCI {
-        return Ok(more);
+
+    // "each address where it may go on (after it; for JMI its target; for JCI both)" from place i, with these depths and in this
+    // routine. "BRK goes nowhere."
+    pub fn follow(
+        &mut self,
+        i: usize,
+        after: usize,
+        work: u8,
+        ret: u8,
+        routine: u16,
+    ) -> Result<(), Fault>
+        requires { IsListed self.old × Marks self.old.sheet.now (start + i) × Tested self.old.program.now self.old.sheet.now i work ret
+            × Above self.old.program.now self.old.sheet.now i × (after ≡ i + length_of (get_or self.old.program.now i 0))
+            × (routine ≡ routine_at self.old.sheet.now i)
+            × (get_or self.old.program.now i 0 ≡ 0x60 → ⊥) × (get_or self.old.program.now i 0 ≡ 0x6C → ⊥) }
+        ensures same { Same self.old self.new }
+        ensures ends { Ends self.old self.new (Obeyed self.old.program.now self.new.sheet.now (start + i)) result }
+    {
+        let program = self.program;
+        let byte = program[i];
+        if byte == BRK {
+            return Ok(());
+        }
+        if byte == JMI {
+            let target = jump_target(program, i);
+            if !self.reach(target, work, ret, routine) {
+                return Err(Fault::new(Rule::Target, i, 0));
+            }
+            return Ok(());
+        }
+        if !self.reach_place(after, work, ret, routine) {
+            return Err(Fault::new(Rule::After, i, 0));
+        }
+        if byte != JCI {
+            return Ok(());
+        }
+        let target = jump_target(program, i);
+        if !self.reach(target, work, ret, routine) {
+            return Err(Fault::new(Rule::Target, i, 0));
+        }
+        Ok(())
     }
-    let target = jump_target(program, i);
-    let Some(most) = reach(program, sheet, queue, more, target, work, ret, routine) else {
-        return Err(Fault::new(Rule::Target, i, 0));
-    };
-    Ok(most)
 }

@@ -15,8 +15,8 @@ returns-then-program-gt-ADMIT_MOST c = sym (exact.long _ _ c.if-program-gt-ADMIT
 pub returns-then-sheet-program : goal.returns-then-sheet-program
 returns-then-sheet-program c = sym (exact.unfit _ _ (search rules) c.if-program-gt-ADMIT_MOST.false c.if-sheet-program.true)
 
-pub returns-in_default : goal.returns-in_default
-returns-in_default c = calls.refused_11 _ _ (search rules) c.if-program-gt-ADMIT_MOST.false c.if-sheet-program.false _ _ _ c.in_default.ensures (omega arith) c.clear.ensures
+pub returns-in-Err : goal.returns-in-Err
+returns-in-Err c = calls.refused_11 _ _ (search rules) c.if-program-gt-ADMIT_MOST.false c.if-sheet-program.false _ _ _ c.in-Err.ensures (omega arith) c.clear.ensures
 
-pub returns : goal.returns
-returns c = calls.admitted_is _ _ (search rules) c.if-program-gt-ADMIT_MOST.false c.if-sheet-program.false _ c.in-Ok.ensures
+pub returns-in-Ok : goal.returns-in-Ok
+returns-in-Ok c = calls.admitted_is _ _ (search rules) c.if-program-gt-ADMIT_MOST.false c.if-sheet-program.false _ c.in-Ok.ensures

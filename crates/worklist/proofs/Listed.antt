@@ -1,13 +1,13 @@
 -- Laws of the worklist: an address that is reached, for each of the ways in which `reach` ends. Assumes nothing.
 use mathlib.Core.Path.{◌≡◌, refl, sym, ap, ◌∙◌}
 use mathlib.Core.Logic.{◌⊎◌, inl, inr}
-use mathlib.Core.Bool.{Bool, true, false, cond, true≢false}
-use mathlib.Core.List.{List}
+use mathlib.Core.Bool.{Bool, true, false, cond}
+use mathlib.Core.List.{List, [], ◌∷◌, ◌++◌}
 use Prim.Native.Nat.{ℕ, ◌+◌, ◌-◌, ◌*◌, ◌≤◌, ◌<◌}
 use native.Mathlib.Decide.{ℕ_discrete}
 use native.Mathlib.Omega.{arith}
-use lib.ListN.{length, get_or, set, length-set}
-use lib.Seq.{get_or-set_same, get_or-set_other}
+use lib.ListN.{length, get_or, set, length-set, get_or-append, length-append}
+use lib.Seq.{get_or-set_same, get_or-set_other, get_or-append_seam}
 use lib.Dec.{ltb}
 use borrow.Author.Tests.{ltb-false, le-ltb}
 use Rattle.model.specs.Machine.{start}
@@ -19,8 +19,8 @@ use Rattle.model.proofs.Rules.{not_both, marked_within}
 use Rattle.model.proofs.Sheet.{mark_in_lem, length-sheet}
 use Rattle.std.specs.Prelude.{Result, Ok, Err}
 use Rattle.worklist.specs.declared.Rule.{Rule}
-use Rattle.worklist.specs.Worklist.{work_at, ret_at, routine_at, Has, Agrees, Led, Marks, Rooted, Roots, Listed, Extended, place_at, Told, Failing, ToldIn, Outcome, Left}
-use Rattle.worklist.proofs.Sheets.{byte_of_record, mark_unmarked, mark_marked, with_mark, sheet-set, count_set, count_room}
+use Rattle.worklist.specs.Worklist.{work_at, ret_at, routine_at, with_mark, Agrees, Led, Marks, Rooted, Roots, Listed, Extended, Marking, place_at, Told, Failing, ToldIn, Outcome, Left}
+use Rattle.worklist.proofs.Sheets.{byte_of_record, mark_unmarked, mark_marked, sheet-set, count_set, count_room}
 
 -- a mark has one pair of depths and one routine
 pub same_parts : {a : Mark} {w r q v s p : ℕ} → a ≡ marked w r q → a ≡ marked v s p → (w ≡ v) × (r ≡ s) × (q ≡ p)
@@ -100,7 +100,7 @@ module _ (program sheet after : List ℕ) (grown : (at w r q : ℕ) → mark_in 
 
 -- ---- an address that is reached
 
-module _ (program sheet queue : List ℕ) (tail : ℕ) (list : Listed program sheet queue tail) where
+module _ (program sheet queue : List ℕ) (list : Listed program sheet queue) where
   -- the marks of the sheet are those that it was written from
   pub marks_are : (at : ℕ) → mark_in sheet at ≡ mark_at list.marks at
   marks_are at = rw list.written (mark_in_lem list.marks program list.size at)
@@ -109,7 +109,7 @@ module _ (program sheet queue : List ℕ) (tail : ℕ) (list : Listed program sh
   sheet-length = rw list.written (length-sheet list.marks program list.size)
 
   -- there are no more places in the queue than the program has bytes
-  pub queue_most : tail ≤ length program
+  pub queue_most : length queue ≤ length program
   queue_most = omega (arith, list.counted, list.size, count_most list.marks)
 
   -- byte k of the record of place i
@@ -191,34 +191,27 @@ module _ (program sheet queue : List ℕ) (tail : ℕ) (list : Listed program sh
         sym (ap ret_of (rw e at m))
 
   -- there is room for it in the queue
-  pub room : (i : ℕ) → i < length program → get_or sheet (sheet_record * i) 0 ≡ 0 → tail < admit_most
+  pub room : (i : ℕ) → i < length program → get_or sheet (sheet_record * i) 0 ≡ 0 → length queue < admit_most
   room i h e =
       omega (arith, count_room list.marks i (omega (arith, list.size)) (free i h e), list.counted, list.size, list.most)
 
   -- nothing more
-  pub unextended : Extended program sheet queue tail sheet queue tail
+  pub unextended : Extended program sheet queue sheet queue
   unextended = record { list = list; grown = λ at w r q e. e; kept = λ k h. refl; longer = omega arith }
 
   module _ (at w r q : ℕ) (led : Led program at w r q) where
     module _ (i : ℕ) (here : start + i ≡ at) (inside : i < length program) where
-      -- it has another mark
-      pub other_parts : (get_or sheet (sheet_record * i) 0 ≡ 0 → ⊥) → (b : Bool) → b ≡ false → Agrees sheet i w r q b
-          → Marks sheet at × (Has sheet (at - start) w r q → ⊥)
-      other_parts g true b h = absurd (true≢false b)
-      other_parts g false b h = let e : at - start ≡ i = omega arith in ((_, _, _, rw here at (parts_are i inside g)), rw e h)
-
-      -- it has this one
-      pub these_parts : (get_or sheet (sheet_record * i) 0 ≡ 0 → ⊥) → (b : Bool) → b ≡ true → Agrees sheet i w r q b
-          → mark_in sheet at ≡ marked w r q
-      these_parts g true b h = rw (h.0, h.1, h.2, here) at (parts_are i inside g)
-      these_parts g false b h = absurd (true≢false (sym b))
+      -- it has a mark: this one, or another
+      pub has_mark : (get_or sheet (sheet_record * i) 0 ≡ 0 → ⊥) → (b : Bool) → Agrees sheet i w r q b → Marking program sheet queue sheet queue at w r q b
+      has_mark g true h = (unextended, rw (h.0, h.1, h.2, here) at (parts_are i inside g))
+      has_mark g false h = (
+        refl,
+        λ x. let e : at - start ≡ i = omega arith in ((_, _, _, rw here at (parts_are i inside g)), rw e h),
+      )
 
       -- it has no mark: it gets one, and a place in the queue
       module _ (sheet_after queue_after : List ℕ) (none : get_or sheet (sheet_record * i) 0 ≡ 0) (roots : Roots program sheet at r q)
-          (marks : sheet_after ≡ with_mark sheet i w r q) (queues : queue_after ≡ set queue tail i) where
-        space : tail < length queue
-        space = omega (arith, room i inside none, list.spaces)
-
+          (marks : sheet_after ≡ with_mark sheet i w r q) (queues : queue_after ≡ queue ++ i ∷ []) where
         after : List Mark
         after = set list.marks i (marked w r q)
 
@@ -256,11 +249,14 @@ module _ (program sheet queue : List ℕ) (tail : ℕ) (list : Listed program sh
           | inr f ↦ inr (f.0 ∙ here, f.1, f.2, f.3)
         ]
 
-        old-place : (k : ℕ) → k < tail → get_or queue_after k 0 ≡ get_or queue k 0
-        old-place k h = rw queues (get_or-set_other queue tail k i 0 (λ e. omega arith))
+        longer_by_one : length queue_after ≡ length queue + 1
+        longer_by_one = rw queues (length-append queue (i ∷ []))
 
-        new-place : start + get_or queue_after tail 0 ≡ at
-        new-place = rw (queues, get_or-set_same queue tail i 0 space) here
+        old-place : (k : ℕ) → k < length queue → get_or queue_after k 0 ≡ get_or queue k 0
+        old-place k h = rw queues (get_or-append queue (i ∷ []) 0 k h)
+
+        new-place : start + get_or queue_after (length queue) 0 ≡ at
+        new-place = rw (queues, get_or-append_seam queue i [] 0) here
 
         -- the routine of the new mark
         rooted_now : Roots program sheet at r q → Rooted program sheet_after q r
@@ -274,17 +270,16 @@ module _ (program sheet queue : List ℕ) (tail : ℕ) (list : Listed program sh
             }
         rooted_now (inr o) = grown-rooted program sheet sheet_after stays q r o
 
-        pub extended : Extended program sheet queue tail sheet_after queue_after (tail + 1)
+        pub extended : Extended program sheet queue sheet_after queue_after
         unfolding after
         extended =
             record {
               list = record {
                 most = list.most;
-                spaces = rw queues (simp length-set list.spaces);
                 marks = after;
                 size = sized;
                 written = wrote;
-                counted = omega (arith, list.counted, count_set list.marks i w r q within unset);
+                counted = omega (arith, longer_by_one, list.counted, count_set list.marks i w r q within unset);
                 first = stays start 0 0 start list.first;
                 ways = λ b v s p e. elim (cases b v s p e) [
                   | inl f ↦ list.ways b v s p f
@@ -294,30 +289,30 @@ module _ (program sheet queue : List ℕ) (tail : ℕ) (list : Listed program sh
                   | inl f ↦ grown-rooted program sheet sheet_after stays p s (list.rooted b v s p f)
                   | inr f ↦ rw (← f.2, ← f.3) (rooted_now roots)
                 ];
-                listed = λ k h. elim (ℕ_discrete k tail) [
+                listed = λ k h. elim (ℕ_discrete k (length queue)) [
                   | yes e ↦ (w, r, q, rw (e, new-place) reached_mark)
                   | no e ↦
-                      let m = list.listed k (omega arith) in
-                      (m.0, m.1, m.2, rw (old-place k (omega arith)) (stays _ _ _ _ m.3))
+                      let m = list.listed k (omega (arith, longer_by_one)) in
+                      (m.0, m.1, m.2, rw (old-place k (omega (arith, longer_by_one))) (stays _ _ _ _ m.3))
                 ];
                 covers = λ b v s p e. elim (cases b v s p e) [
                   | inl f ↦
                       let c = list.covers b v s p f in
-                      (c.0, omega (arith, c.1), c.2 ∙ sym (ap (λ j. start + j) (old-place c.0 c.1)))
-                  | inr f ↦ (tail, omega arith, f.0 ∙ sym new-place)
+                      (c.0, omega (arith, longer_by_one, c.1), c.2 ∙ sym (ap (λ j. start + j) (old-place c.0 c.1)))
+                  | inr f ↦ (length queue, omega (arith, longer_by_one), f.0 ∙ sym new-place)
                 ];
               };
               grown = stays;
               kept = old-place;
-              longer = omega arith;
+              longer = omega (arith, longer_by_one);
             }
 
 -- ---- one outcome after another
 
 -- one extension after another
-pub extended_again : {program sheet queue : List ℕ} {tail : ℕ} {sheet₁ queue₁ : List ℕ} {tail₁ : ℕ} {sheet₂ queue₂ : List ℕ} {tail₂ : ℕ}
-    → Extended program sheet queue tail sheet₁ queue₁ tail₁ → Extended program sheet₁ queue₁ tail₁ sheet₂ queue₂ tail₂
-    → Extended program sheet queue tail sheet₂ queue₂ tail₂
+pub extended_again : {program sheet queue : List ℕ} {sheet₁ queue₁ : List ℕ} {sheet₂ queue₂ : List ℕ}
+    → Extended program sheet queue sheet₁ queue₁ → Extended program sheet₁ queue₁ sheet₂ queue₂
+    → Extended program sheet queue sheet₂ queue₂
 extended_again a b =
     record {
       list = b.list;
@@ -332,15 +327,15 @@ pub tells : (program sheet : List ℕ) (rule : Rule) (i j : ℕ) (f : Failing) �
 tells program sheet rule i j f e t = rw e t
 
 -- what an outcome says, from what another one says
-pub outcome_by : (program sheet queue : List ℕ) (tail : ℕ) (sheet₁ queue₁ : List ℕ) (P Q : Type 0)
-    → ((k : ℕ) → Extended program sheet queue tail sheet₁ queue₁ k → P → Q) → (n : Result ℕ Failing)
-    → Outcome program sheet queue tail sheet₁ queue₁ P n → Outcome program sheet queue tail sheet₁ queue₁ Q n
-outcome_by program sheet queue tail sheet₁ queue₁ P Q f (Err n) o = o
-outcome_by program sheet queue tail sheet₁ queue₁ P Q f (Ok k) o = (o.0, f k o.0 o.1)
+pub outcome_by : (program sheet queue : List ℕ) (sheet₁ queue₁ : List ℕ) (P Q : Type 0)
+    → (Extended program sheet queue sheet₁ queue₁ → P → Q) → (n : Result (Unit {0}) Failing)
+    → Outcome program sheet queue sheet₁ queue₁ P n → Outcome program sheet queue sheet₁ queue₁ Q n
+outcome_by program sheet queue sheet₁ queue₁ P Q f (Err n) o = o
+outcome_by program sheet queue sheet₁ queue₁ P Q f (Ok done) o = (o.0, f o.0 o.1)
 
 -- after one extension
-pub outcome_after : (program sheet queue : List ℕ) (tail : ℕ) (sheet₁ queue₁ : List ℕ) (tail₁ : ℕ) (sheet₂ queue₂ : List ℕ) (P : Type 0)
-    → Extended program sheet queue tail sheet₁ queue₁ tail₁ → (n : Result ℕ Failing)
-    → Outcome program sheet₁ queue₁ tail₁ sheet₂ queue₂ P n → Outcome program sheet queue tail sheet₂ queue₂ P n
-outcome_after program sheet queue tail sheet₁ queue₁ tail₁ sheet₂ queue₂ P a (Err n) o = o
-outcome_after program sheet queue tail sheet₁ queue₁ tail₁ sheet₂ queue₂ P a (Ok k) o = (extended_again a o.0, o.1)
+pub outcome_after : (program sheet queue : List ℕ) (sheet₁ queue₁ : List ℕ) (sheet₂ queue₂ : List ℕ) (P : Type 0)
+    → Extended program sheet queue sheet₁ queue₁ → (n : Result (Unit {0}) Failing)
+    → Outcome program sheet₁ queue₁ sheet₂ queue₂ P n → Outcome program sheet queue sheet₂ queue₂ P n
+outcome_after program sheet queue sheet₁ queue₁ sheet₂ queue₂ P a (Err n) o = o
+outcome_after program sheet queue sheet₁ queue₁ sheet₂ queue₂ P a (Ok done) o = (extended_again a o.0, o.1)
