@@ -19,9 +19,10 @@ use reasons::reason_of;
 use rules::{below_floor, depth_by_table, forbidden, lacks};
 use table::{Column, Table, WhichStack};
 pub use worklist::SHEET_RECORD;
-use worklist::{Fault, JSI, RETURN, Routines, Rule, Worklist};
+use worklist::{Fault, JSI, RETURN, Record, Routines, Rule, Worklist};
 
-// "above 4,096 bytes" a program is not admitted. A number beside that of the arrays of the worklist, so that a limit above their room is refused by the check.
+// "above 4,096 bytes" a program is not admitted. A number beside that of the arrays of the worklist, so that a limit above their room is
+// refused by the check (`limit_4097`).
 const ADMIT_MOST: usize = 4096;
 
 // ---- the sheet
@@ -48,6 +49,8 @@ struct Depths {
 }
 
 // What the rules say of the instruction at place i by itself, with the depths of its record: one fails; or these are the depths after it.
+// Written out for both stacks, as the rules are in `Rule` and in `Reason`, whose cases `True` and the edit `reason_other_stack` tell apart: a
+// function for either would be passed the table, the byte, the stack and the depth, to stand for four lines.
 fn depths_after(table: &Table, list: &Worklist<'_>, i: usize) -> Result<Depths, Fault>
     requires { (i < length list.now.program.now) × (length list.now.program.now ≤ admit_most) × (sheet_record * i + 7 < length list.now.sheet.now) }
     ensures { Judged list.now.program.now list.now.sheet.now i result }
@@ -119,7 +122,12 @@ fn visit(table: &Table, list: &mut Worklist<'_>, i: usize) -> Result<(), Fault>
     if sinks(table, list, i, routine) {
         return Err(Fault::new(Rule::BelowFloor, i, 0));
     }
-    list.follow(i, depths.after, depths.work, depths.ret, routine)
+    let record = Record {
+        work: depths.work,
+        ret: depths.ret,
+        routine,
+    };
+    list.follow(i, depths.after, record)
 }
 
 // JSI and 6C.

@@ -1,16 +1,6 @@
--- Laws of the last member of a list, of a product by shifts and adds and of results that fit. Assumes nothing.
-use Rattle.std.proofs.Common.{◌≡◌, ℕ, zero, suc, ◌+◌, ◌*◌, ◌/◌, ◌%◌, ◌^◌, ◌<◌, ◌≤◌, List, [], ◌∷◌, ◌++◌, length, get_or, sym, refl, ap, ◌∙◌, mul_assoc, add-mul, mul-add, mul_right_comm, arith}
+-- Laws of a product by shifts and adds. Assumes nothing.
+use Rattle.std.proofs.Common.{◌≡◌, ℕ, zero, suc, ◌+◌, ◌*◌, ◌/◌, ◌%◌, ◌^◌, ◌<◌, ◌≤◌, sym, refl, ap, ◌∙◌, mul_assoc, add-mul, mul-add, mul_right_comm, arith}
 use native.Mathlib.Nat.{mod-add-mod, mod-add-div, mod-add-div', add-mul-mod_self_right}
-use lib.Bits.{bit_and, bit_or, bit_xor, and_lt, or_lt, xor_lt}
-
--- the last member of a list stands for every further number
-pub last : {A : Type 0} (xs : List A) (x : A) (o : ℕ) → length xs ≤ o → get_or (xs ++ (x ∷ [])) o x ≡ x
-last [] x zero h = refl
-last [] x (suc o) h = refl
-last (y ∷ xs) x zero h = absurd (omega arith)
-last (y ∷ xs) x (suc o) h = last xs x o (omega arith)
-
--- ---- a product by shifts and adds
 
 module _ (m : ℕ) where
   -- a factor counts modulo m
@@ -69,17 +59,3 @@ turns_fewer (suc k) (suc rest) p h = omega (arith, turns_enough k (suc rest / 2)
 -- a lowest bit that is not 1 is 0
 pub even : (n : ℕ) → (n % 2 ≡ 1 → ⊥) → n % 2 ≡ 0
 even n h = omega (arith, h)
-
--- of a result that has at most 16 bits, all are kept
-kept : (v : ℕ) → v < 65536 → v ≡ v % 65536
-kept v h = omega arith
-
-module _ (a b : ℕ) (ha : a < 65536) (hb : b < 65536) where
-  pub and_kept : bit_and a b ≡ bit_and a b % 65536
-  and_kept = kept _ (and_lt 16 a b ha hb)
-
-  pub or_kept : bit_or a b ≡ bit_or a b % 65536
-  or_kept = kept _ (or_lt 16 a b ha hb)
-
-  pub xor_kept : bit_xor a b ≡ bit_xor a b % 65536
-  xor_kept = kept _ (xor_lt 16 a b ha hb)

@@ -11,7 +11,7 @@ ghost use Rattle.alu.specs.Numbers.{arithmetic_at, comparison_at};
 pub fn product(a: u16, b: u16) -> u16
     ensures { result ≡ (a * b) % 65536 }
 {
-    // by hand: with `max` and `min` the run has other branches, and a step costs 0.2 instructions more in the mean of the workloads
+    // by hand: the edit `product_larger_number` turns this comparison round, and with `max` and `min`, which say no more, there is none
     let mut term = a;
     let mut rest = b;
     if a < b {
@@ -19,7 +19,7 @@ pub fn product(a: u16, b: u16) -> u16
         rest = a;
     }
     let mut sum: u16 = 0;
-    // What stays: sum + term * rest is the product, modulo 65,536.
+    // A turn for each bit that is left, and none is counted. What stays: sum + term * rest is the product, modulo 65,536.
     while rest > 0 {
         if rest % 2 == 1 {
             sum = sum.wrapping_add(term);

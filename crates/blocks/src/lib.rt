@@ -12,16 +12,14 @@ ghost use Rattle.model.specs.Replies.{of_frame};
 ghost use Rattle.text.specs.Lines.{line, line_most};
 ghost use Rattle.blocks.specs.Frames.{whole_records, machine_after, first_lines, judged, behind};
 
-use admission::SHEET_RECORD;
+pub use admission::SHEET_RECORD;
 use arrayvec::ArrayVec;
 use model::{FrameEnd, Machine, Refused};
+use refusals::FRAME_SIZE;
 use text::{put_line, put_refused};
 
 // "with a budget of 10,000 steps a frame"
 const BUDGET: u32 = 10000;
-
-// C-16: "the record becomes 128 bytes"
-const RECORD: usize = 128;
 
 // The machine record after a block, and how many bytes wait at the start of the block.
 #[derive(Clone, Copy)]
@@ -87,7 +85,7 @@ fn frames<const N: usize>(
         ++ first_lines records.now (state memory.old devices.old work.old ret.old m) (whole_records records.now) }
 {
     let mut machine = m;
-    for record in records.chunks_exact(RECORD) {
+    for record in records.chunks_exact(FRAME_SIZE) {
         let reply = machine::frame(machine, memory, devices, work, ret, record, BUDGET);
         machine = record_of(reply);
         put_line(out, reply);
@@ -96,7 +94,8 @@ fn frames<const N: usize>(
 }
 
 // The first n bytes of the block: frame calls for its whole records, their lines behind what is in `out`, and the bytes after the
-// last whole record moved to the start of the block, where they wait for the rest of their record.
+// last whole record moved to the start of the block, where they wait for the rest of their record. The block is lent with n beside it:
+// `read` of std fills a slice, and what waits has to stand at the front of it, for what comes next is read in behind that.
 pub fn work_off<const N: usize>(
     m: Machine,
     memory: &mut [u8],
@@ -117,7 +116,7 @@ pub fn work_off<const N: usize>(
     ensures bounds { (result.waiting < frame_size) × (result.waiting ≤ length block.new) }
 {
     let machine = frames(m, memory, devices, work, ret, &block[..n], out);
-    let waiting = n % RECORD;
+    let waiting = n % FRAME_SIZE;
     block.copy_within(n - waiting..n, 0);
     Worked { machine, waiting }
 }

@@ -4,7 +4,7 @@ use mathlib.Core.List.{List, [], ◌++◌, append_assoc, append-nil}
 use Prim.Native.Nat.{ℕ, ◌+◌, ◌-◌, ◌≤◌}
 use native.Mathlib.Omega.{arith}
 use lib.ListN.{length, take, drop, length-replicate, length-drop, length-append, drop_of_length-le}
-use lib.Seq.{take_all, take-append_seam, drop-append_seam, drop-drop, take_at, drop_at, length-take-le}
+use lib.Seq.{take_all, drop-drop, take_at, drop_at, length-take-le}
 use borrow.Rule.Slice.PartMut.{put_mid}
 use Rattle.model.specs.Bytes.{zeros}
 
@@ -18,14 +18,6 @@ part_back a n xs ys l =
     let l : length (drop a xs) ≤ n = rw length-drop (omega arith) in
     let e : drop n (drop a xs) ≡ [] = drop_of_length-le (drop a xs) l in
     rw (e, append-nil)
-
--- the program is placed, and the part from its end on is cleared
-pub filled : (part program placed cleared : List ℕ) → placed ≡ program ++ drop (length program) part
-    → cleared ≡ zeros (length (take (length placed - length program) (drop (length program) placed)))
-    → put_mid (length program) (length placed - length program) placed cleared ≡ program ++ zeros (length part - length program)
-filled part program placed cleared hp hc =
-    part_back (length program) (length placed - length program) placed cleared (omega arith)
-    ∙ rw (hc, part_is (length program) (length placed - length program) placed (omega arith), hp, take-append_seam program, drop-append_seam program, length-drop)
 
 -- bytes are placed from a on
 pub placed-from : (a n : ℕ) (xs bytes ys : List ℕ) → length xs ≡ a + n → ys ≡ bytes ++ drop (length bytes) (take n (drop a xs))

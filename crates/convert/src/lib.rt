@@ -5,13 +5,13 @@
 ghost use Rattle.convert.specs.Passes.{PassOf};
 
 use input::{
-    argument, has_arguments, open, or_say_failed, read_to_end, say, say_refused, write_output,
-    zeros,
+    argument, has_arguments, open, or_say_failed, read_whole, say, say_refused, write_output, zeros,
 };
 use records::{Direction, take_block};
 use std::io::Read;
 
 // What a pass comes to: the number that the file is refused with, or 0, as its blocks have it, and how many bytes it has.
+// A number, and no `Refusal`, as in `BlockMoved`: it is worked out from those of the blocks, whatever they are (`earlier`).
 #[derive(Clone, Copy, PartialEq)]
 pub struct Passed {
     pub number: u8,
@@ -38,8 +38,9 @@ fn read_blocks(
     let mut total: u64 = 0;
     // A proved loop has to end, and nothing says that a file does: no run takes so many turns.
     for _turn in 0..u64::MAX {
-        let n = or_say_failed(rt, path, read_to_end(file, block))?;
-        let taken = take_block(direction, number, &block[..n], output);
+        let part = read_whole(rt, file, path, block)?;
+        let n = part.len();
+        let taken = take_block(direction, number, part, output);
         number = taken.number;
         let written = taken.written;
         total = total.wrapping_add(n as u64);

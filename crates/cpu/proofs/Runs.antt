@@ -1,6 +1,6 @@
 -- An instruction by its byte, the high marks, and a run from the steps of its loop. Assumes nothing.
 use Rattle.std.proofs.Common.{◌≡◌, ℕ, zero, suc, ◌+◌, ◌-◌, ◌/◌, ◌%◌, ◌<◌, ◌≤◌, Bool, true, false, cond, eqb, Option, ltb, leb, List, [], ◌∷◌, sym, refl, ap, ◌∙◌, arith, ltb-false, ltb-true, le-ltb, lt-ltb, eq-eqb, ne_eqb, leb-false, leb-true}
-use Rattle.model.specs.Bytes.{one_of, places_ring}
+use Rattle.model.specs.Bytes.{greater, one_of, places_ring}
 use Rattle.model.specs.Machine.{page_size, State}
 use Rattle.model.specs.Instruction.{wide, size, return_mode}
 use Rattle.model.specs.Instruction.Op.{DEO}
@@ -27,6 +27,18 @@ whole b false l h = let g = leb-false 128 b h in omega arith
 pub carries_out : (s : State) {t : Reply} → fetched s < 256 → t ≡ executed (byte_of (fetched s % 128) (leb 128 (fetched s))) s → t ≡ carried_out s
 unfolding carried_out
 carries_out s l h = rw (whole (fetched s) (leb 128 (fetched s)) l refl) at h
+
+-- ---- the high marks
+
+pub greater_second : (a b : ℕ) → a < b → b ≡ greater a b
+greater_second a b l = rw (lt-ltb a b l)
+
+pub greater-first : (a b : ℕ) → b ≤ a → a ≡ greater a b
+greater-first a b l = rw (le-ltb a b l)
+
+-- a record that has no pointer above its mark
+pub unraised : (m : Machine) → m.wp ≤ m.wp_high → m.rp ≤ m.rp_high → m ≡ raised_record m
+unraised m w r = rw (le-ltb _ _ w, le-ltb _ _ r)
 
 -- ---- the ports that a step writes
 

@@ -17,7 +17,7 @@ use stack::{Memory, PAGE_SIZE, Page, Stack, second};
 use transfers::port_of;
 
 // How a run ended, with the machine record afterwards and the part of the budget that is not spent: the loop counts down, and its
-// callers count the steps.
+// callers count the steps. Beside `RunEnd`, which has the steps, for `step_is`, `run_is` and `frame_is` of `machine` speak of both.
 #[derive(Clone, Copy)]
 pub enum End {
     Broke(Machine, u32),
@@ -83,6 +83,7 @@ pub fn ports(m: Machine, memory: &Memory, work: &Stack, ret: &Stack) -> Ports
     if byte % 32 != DEO {
         return Ports::None;
     }
+    // The bits of an instruction byte are tested where they are asked for, here, in `rules` and in `words`: a function would say no more.
     let wide = byte / 32 % 2 == 1;
     if byte / 64 % 2 == 1 {
         return ports_from(port_of(ret, m.rp, wide), wide);
@@ -118,7 +119,7 @@ pub fn run(
 {
     let mut machine = m;
     let mut left = budget;
-    // counted by hand: `for left in (0..budget).rev()` takes an instruction more a step
+    // counted by hand: `for left in (0..budget).rev()` says no more, and takes an instruction more a step
     while 0 < left {
         match carry_out(machine, memory, devices, work, ret) {
             Stepped::WentOn(next, sent) => {

@@ -54,7 +54,7 @@ const RETURNS_DIFFER: u8 = 12;
 // What a call replies: the machine record afterwards, the steps taken, the number of the refusal or 0, the answer, the verdict or 0, and
 // how many ports a step wrote, and which.
 #[repr(C)]
-#[derive(Clone, Copy)]
+#[derive(Clone, Copy, Default)]
 pub struct Reply {
     pub machine: Machine,
     pub steps: u32,
@@ -93,12 +93,9 @@ fn refused(r: Refused) -> Reply
 {
     Reply {
         machine: r.machine,
-        steps: 0,
         number: u8::from(r.refusal),
         answer: REFUSED,
-        verdict: 0,
-        sent: 0,
-        ports: [0, 0],
+        ..Reply::default()
     }
 }
 
@@ -108,11 +105,9 @@ fn done(answer: u8, machine: Machine, steps: u32, verdict: u8) -> Reply
     Reply {
         machine,
         steps,
-        number: 0,
         answer,
         verdict,
-        sent: 0,
-        ports: [0, 0],
+        ..Reply::default()
     }
 }
 
@@ -123,11 +118,10 @@ fn went_on(machine: Machine, sent: u8, first: u8, second: u8) -> Reply
     Reply {
         machine,
         steps: 1,
-        number: 0,
         answer: WENT_ON,
-        verdict: 0,
         sent,
         ports: [first, second],
+        ..Reply::default()
     }
 }
 
@@ -151,7 +145,8 @@ fn wrote(length: usize, number: u8) -> Written
     }
 }
 
-// Functions, and no `From`: for that of an admission, a number from a `Result`, no impl can be written here, and all of them have one form.
+// Functions, and no `From`: for that of an admission, a number from a `Result`, no impl can be written here, and all of them have one form:
+// each has the name of a call, and its clause is the definition of that name, for any four buffers.
 
 pub fn of_load(reply: Result<Machine, Refused>) -> Reply
     ensures { (p q w t : List ℕ) → returned result p q w t ≡ exported (of_load (state p q w t) reply) }
@@ -249,7 +244,7 @@ pub fn of_write(reply: Result<usize, Refusal>) -> Written
 
 // ---- why a program is refused
 
-// No place.
+// No place; no `Default` of Place, for in `model` 0000 is an address like any other: only C takes zeros for none.
 fn nowhere() -> Place
     ensures { result ≡ nowhere_place }
 {

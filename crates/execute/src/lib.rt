@@ -12,7 +12,8 @@ use operations::{compare, compute, dup, inc, nip, ovr, pop, rot, sft, swp};
 use stack::{Memory, Page, Stack, lower, push};
 use transfers::{dei, deo, jci, jcn, jmp, lda, ldr, ldz, lit, offset, port_of, sta, sth, str, stz};
 
-// The ports that a step wrote: so many from the first one on, modulo 256.
+// The ports that a step wrote: so many from the first one on, modulo 256. Beside `Ports` of `model`: with both numbers in one a step takes a
+// quarter more instructions.
 #[derive(Clone, Copy)]
 pub struct Sent {
     pub first: u16,
@@ -27,8 +28,8 @@ pub enum Stepped {
 }
 
 // Each arm is an operation in 8-bit or 16-bit form; the arms 00, 20, 40 and 60 are the exceptions, LIT where keep is set and else
-// BRK, JCI, JMI and JSI. The high marks are handed through: the run raises them after each step. The arms are written out for both stacks and
-// both widths, since a second dispatch costs the run a third more time.
+// BRK, JCI, JMI and JSI. The high marks are handed through: the run raises them after each step. The arms are written out for both stacks: with
+// one function of 64 arms that is passed the stacks, a step takes 3.99 of the instructions of the best C peer in the mean, and 1.45 is the bar.
 pub fn execute(
     m: Machine,
     memory: &mut Memory,

@@ -7,8 +7,8 @@ ghost use Rattle.std.specs.Prelude.{◌+◌, ◌≤◌, length};
 ghost use Rattle.model.specs.Admission.{admit_most};
 
 use arrayvec::ArrayVec;
-use blocks::install;
-use input::{argument, has_arguments, open, or_say_failed, read_whole, write_output};
+use blocks::{SHEET_RECORD, install};
+use input::{PROGRAM_ROOM, argument, has_arguments, open, or_say_failed, read_whole, write_output};
 use model::Machine;
 use std::io::Read;
 use stream::stream_records;
@@ -23,7 +23,7 @@ fn run(rt: &HostRuntime, program: &[u8], records: &mut impl Read, records_path: 
     let mut work = [0u8; 256];
     let mut ret = [0u8; 256];
     // "A program refused at load gives that one line alone."
-    let mut sheet = [0u8; 32776];
+    let mut sheet = [0u8; SHEET_RECORD * PROGRAM_ROOM];
     let mut line: ArrayVec<u8, 12> = ArrayVec::new();
     let m = install(
         Machine::default(),
@@ -58,8 +58,7 @@ const USAGE: &[u8] =
 fn open_and_run(rt: &HostRuntime, program_path: &[u8], records_path: &[u8]) -> Option<()> {
     let mut program_file = or_say_failed(rt, program_path, open(rt, program_path))?;
     let mut records = or_say_failed(rt, records_path, open(rt, records_path))?;
-    // One byte more than an install takes, so that a longer program is seen and refused.
-    let mut bytes = [0u8; 4097];
+    let mut bytes = [0u8; PROGRAM_ROOM];
     let program = read_whole(rt, &mut program_file, program_path, &mut bytes)?;
     run(rt, program, &mut records, records_path)
 }

@@ -6,18 +6,16 @@ ghost use Rattle.model.specs.Calls.{frame_size};
 ghost use Rattle.frames.specs.Reading.{block_size, Came, CameInAll};
 
 use arrayvec::ArrayVec;
-use blocks::work_off;
+use blocks::{Worked, work_off};
 use input::{or_say_failed, read_more, say, write_output, zeros};
 use model::Machine;
 use std::io::Read;
 use text::put_decimal;
 
-// What one read leaves: the machine record, how many bytes of a part record wait at the start of the block, and whether to read on. A flag,
-// and no ControlFlow: what is left is the same whether there is more or not.
-#[derive(Drop)]
+// What one read leaves, and whether to read on. A flag, and no ControlFlow: what is left is the same whether there is more or not.
+#[derive(Clone, Copy)]
 pub struct Turn {
-    pub machine: Machine,
-    pub waiting: usize,
+    pub worked: Worked,
     pub more: bool,
 }
 
@@ -36,8 +34,8 @@ fn end_of_file(rt: &HostRuntime, path: &[u8], waiting: usize)
     say(rt, b"\n");
 }
 
-// One read, and a line for each whole record that is there then. The block is lent with how much of it waits beside it: what comes is read into
-// the bytes after those.
+// One read, and a line for each whole record that is there then. The block is lent with how much of it waits beside it: `read` of std fills
+// a slice, here the bytes after those, and what waits then is moved to the front.
 fn read_some(
     rt: &HostRuntime,
     m: Machine,
@@ -54,37 +52,30 @@ fn read_some(
     requires { (length block.old ≡ block_size) × (waited < frame_size) }
     ensures came { Came (take waited block.old) (state memory.old devices.old work.old ret.old m)
         (record {
-          machine = state memory.new devices.new work.new ret.new result.machine;
+          machine = state memory.new devices.new work.new ret.new result.worked.machine;
           lines = lines.new.items;
-          waiting = take result.waiting block.new;
+          waiting = take result.worked.waiting block.new;
         }) }
-    ensures part_waits { result.waiting < frame_size }
+    ensures part_waits { result.worked.waiting < frame_size }
 {
     lines.clear();
-    let Some(n) = or_say_failed(rt, path, read_more(file, block, waited)) else {
-        return Turn {
+    let last = Turn {
+        worked: Worked {
             machine: m,
             waiting: waited,
-            more: false,
-        };
+        },
+        more: false,
+    };
+    let Some(n) = or_say_failed(rt, path, read_more(file, block, waited)) else {
+        return last;
     };
     if n == waited {
         end_of_file(rt, path, waited);
-        return Turn {
-            machine: m,
-            waiting: waited,
-            more: false,
-        };
+        return last;
     }
     let worked = work_off(m, memory, devices, work, ret, block, n, lines);
-    let machine = worked.machine;
-    let waiting = worked.waiting;
     let more = write_output(rt, lines.as_slice()).is_some();
-    Turn {
-        machine,
-        waiting,
-        more,
-    }
+    Turn { worked, more }
 }
 
 // The whole file. The answer is the machine record after all that came.
@@ -104,18 +95,29 @@ pub fn stream_records(
     let mut block_space = zeros::<65536>();
     let block: &mut [u8] = &mut block_space;
     let mut lines: ArrayVec<u8, 6144> = ArrayVec::new();
-    let mut machine = m;
-    let mut waiting = 0;
+    let mut worked = Worked {
+        machine: m,
+        waiting: 0,
+    };
     // A proved loop has to end, and nothing says that a file does: no run takes so many turns.
     for _turn in 0..u64::MAX {
         let turn = read_some(
-            rt, machine, memory, devices, work, ret, file, path, block, waiting, &mut lines,
+            rt,
+            worked.machine,
+            memory,
+            devices,
+            work,
+            ret,
+            file,
+            path,
+            block,
+            worked.waiting,
+            &mut lines,
         );
-        machine = turn.machine;
-        waiting = turn.waiting;
+        worked = turn.worked;
         if !turn.more {
-            return machine;
+            return worked.machine;
         }
     }
-    machine
+    worked.machine
 }

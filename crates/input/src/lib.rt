@@ -12,6 +12,9 @@ use std::io::{Print, Read, Write};
 use std::{fs, io};
 use text::put_refused;
 
+// One byte more than admission takes, so that a longer program is seen and refused.
+pub const PROGRAM_ROOM: usize = 4097;
+
 // One read into the buffer from `at` on; what stands before `at` stays. The answer is up to where the buffer is filled now: `at` again
 // where the input has ended.
 pub fn read_more(source: &mut impl Read, buf: &mut [u8], at: usize) -> io::Result<usize>
@@ -167,7 +170,7 @@ pub fn read_whole<'a>(
     Some(&buf[..n])
 }
 
-// "refused" with a space and the number, on standard error: where nothing is written on standard output.
+// "refused" with a space and the number, on standard error: where nothing is written on standard output. A number, as in `put_refused`.
 pub fn say_refused(rt: &HostRuntime, number: u8) {
     let mut line: ArrayVec<u8, 12> = ArrayVec::new();
     put_refused(&mut line, number);

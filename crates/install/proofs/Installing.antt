@@ -6,7 +6,7 @@ use Prim.Native.Nat.{ℕ, zero, suc, ◌≤◌}
 use native.Mathlib.Omega.{arith}
 use borrow.Author.Tests.{ne_eqb}
 use Rattle.model.specs.Machine.{State}
-use Rattle.std.specs.Prelude.{Result, Ok, Err, OnOk}
+use Rattle.std.specs.Prelude.{Result, Ok, Err}
 use Rattle.model.specs.Run.{reply}
 use Rattle.model.specs.Run.Answer.{Refused, Loaded}
 use Rattle.model.specs.Calls.{Row, refusal, buffer_rows, number_of, load, load_call, admit_rows, admit_by, admit_call, AdmitResult, install_rows, install_by, install_call}
@@ -71,11 +71,6 @@ module _ (program sheet : List ℕ) (r : Result (Unit {0}) Refusal) (after : Lis
   pub install-number : (s : State) → 0 ≡ refusal (buffer_rows s) → refused_by r ≡ refusal (install_rows program sheet s)
   unfolding install_rows
   install-number s f = by_rows s f (admit_rows program sheet) (refused_by r) number_is
-
--- what holds, holds where it is not refused
-pub on_ok : {A E P : Type 0} (r : Result A E) → P → OnOk r P
-on_ok (Ok x) h = h
-on_ok (Err e) h = tt
 
 -- ---- the reply
 

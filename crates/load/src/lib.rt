@@ -29,6 +29,7 @@ pub fn load(
             machine: m,
         });
     }
+    // As `install` goes on after its check: one function for both would be lent the same five slices.
     Ok(put_program(
         sized(memory),
         sized(devices),

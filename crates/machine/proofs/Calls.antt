@@ -15,7 +15,8 @@ use Rattle.model.specs.Step.{step, breaks, step_ports}
 use Rattle.model.specs.Run.{Reply, reply, with_ports, step_reply, run}
 use Rattle.model.specs.Run.Answer.{WentOn, Broke, Spent, Ignored}
 use Rattle.model.specs.Calls.{from, vector, frame_place, verdict_port, framed, with_verdict}
-use Rattle.model.specs.Replies.{ports_in, of_step, of_run_end, of_frame}
+use Rattle.model.specs.Replies.{ports_in, of_step, of_run_end, of_event, of_frame}
+use Rattle.model.specs.declared.EventEnd.{EventEnd}
 use Rattle.model.specs.declared.Machine.{Machine}
 use Rattle.model.specs.declared.Ports.{Ports}
 use Rattle.model.proofs.Runs.{run_broke, run_on, run_through}
@@ -33,6 +34,11 @@ module _ (state_of : Machine → State) (budget : ℕ) where
   run_is (End.Broke m n) = refl
   run_is (End.Spent m) = refl
   run_is (End.Paused m n) = refl
+
+  pub event_is : (e : End) → of_event state_of (Ok (EventEnd.Ran (run_of budget e))) ≡ of_end budget state_of e
+  event_is (End.Broke m n) = refl
+  event_is (End.Spent m) = refl
+  event_is (End.Paused m n) = refl
 
   -- C-18: a run that watches nothing is not paused
   not_paused : {A : Type 0} (s : State) (m : Machine) (n : ℕ) → of_end budget state_of (End.Paused m n) ≡ run None budget s → A

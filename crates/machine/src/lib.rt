@@ -1,6 +1,7 @@
 // The public calls that run a machine: step, run, event and frame. Each takes the machine record by value and four lent
-// buffers of any length, and refuses first. Record and buffers are five arguments, as the C interface lends them: of a struct of four `&mut` a clause
-// sees what is left behind each only as a part of nested pairs, as `lent.exit.1.1.0.now`, and no name.
+// buffers of any length, and refuses first. Record and buffers are five arguments, as the C interface lends them: with a struct of four
+// `&mut` each function would have to promise besides that every one of the four is still the slice that was lent; and so would one that
+// makes the four arrays at once.
 #![tactic(auto)]
 
 ghost use Rattle.std.specs.Prelude.{◌≡◌};
@@ -19,6 +20,8 @@ use stack::input;
 const DEVICE_PORTS: u16 = 16;
 
 // "A refusal returns its number, 0 steps, verdict 0 and that record unchanged."
+// Where it is met by `if let`: a closure for `map_err` that keeps the record is two functions more to prove at each call, here, in `load` and
+// in `install`.
 fn refused(refusal: Refusal, machine: Machine) -> Refused
     ensures { result ≡ record { refusal = refusal; machine = machine } }
 {

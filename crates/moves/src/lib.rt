@@ -10,13 +10,10 @@ ghost use Rattle.moves.specs.Judging.{Tells, Puts};
 
 use buffers::place;
 use model::{Refusal, START};
-use stack::two_bytes;
+use stack::{SHEET_RECORD, two_bytes};
 
 // "the old four": mark, working depth, return depth, program byte.
 const OLD_RECORD: usize = 4;
-
-// "8 bytes: the old four, the routine (two bytes), two zeros".
-const NEW_RECORD: usize = 8;
 
 const MARKED: u8 = 1;
 
@@ -45,7 +42,7 @@ fn wrong_old(bytes: &[u8]) -> bool
     not_zero(&bytes[4..])
 }
 
-// And "a marked routine 0 or last pair not 0".
+// And "a marked routine 0 or last pair not 0". Records are slices, as `chunks_exact` gives them: an array would be a copy.
 fn wrong_new(bytes: &[u8]) -> bool
     requires { length bytes.now ≡ sheet_record }
     ensures { result ≡ wrong_new bytes.now }
@@ -138,6 +135,8 @@ pub fn each_record<F: Fn(&[u8], &mut [u8])>(
 
 // ---- the calls
 
+// C calls each of the two moves of a sheet by its name, as those of records, and lends the output: how much of it is written is answered.
+
 // "Old sheets move to the new form with routine 0100": 18, then 13 "for a short output", each with "nothing written".
 pub fn widen_sheet(old: &[u8], output: &mut [u8]) -> Result<usize, Refusal>
     ensures { of_write output.new result ≡ widen_call old.now output.old }
@@ -151,7 +150,7 @@ pub fn widen_sheet(old: &[u8], output: &mut [u8]) -> Result<usize, Refusal>
     if output.len() / 2 < old.len() {
         return Err(Refusal::OutputShort);
     }
-    each_record(old, OLD_RECORD, output, NEW_RECORD, put_widened);
+    each_record(old, OLD_RECORD, output, SHEET_RECORD, put_widened);
     Ok(old.len() * 2)
 }
 
@@ -159,18 +158,18 @@ pub fn widen_sheet(old: &[u8], output: &mut [u8]) -> Result<usize, Refusal>
 pub fn narrow_sheet(new: &[u8], output: &mut [u8]) -> Result<usize, Refusal>
     ensures { of_write output.new result ≡ narrow_call new.now output.old }
 {
-    if new.len() % NEW_RECORD != 0 {
+    if new.len() % SHEET_RECORD != 0 {
         return Err(Refusal::SheetBroken);
     }
-    if some_record(new, NEW_RECORD, wrong_new) {
+    if some_record(new, SHEET_RECORD, wrong_new) {
         return Err(Refusal::SheetBroken);
     }
-    if some_record(new, NEW_RECORD, stays_new) {
+    if some_record(new, SHEET_RECORD, stays_new) {
         return Err(Refusal::OtherRoutine);
     }
     if output.len() < new.len() / 2 {
         return Err(Refusal::OutputShort);
     }
-    each_record(new, NEW_RECORD, output, OLD_RECORD, put_narrowed);
+    each_record(new, SHEET_RECORD, output, OLD_RECORD, put_narrowed);
     Ok(new.len() / 2)
 }

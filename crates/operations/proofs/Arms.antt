@@ -1,14 +1,13 @@
 -- The whole reply of a step, from what the code of its operation leaves of the parts that it touches. Assumes nothing.
-use Rattle.std.proofs.Common.{◌≡◌, ℕ, zero, suc, ◌+◌, ◌/◌, ◌%◌, ◌<◌, Bool, true, false, cond, not, ◌&&◌, T, eqb, ltb, List, [], sym, refl, ap, ◌∙◌, arith, ltb→lt, eq-eqb, ne_eqb, eqb-true}
+use Rattle.std.proofs.Common.{◌≡◌, ℕ, zero, suc, ◌+◌, ◌/◌, ◌%◌, ◌<◌, Bool, true, false, cond, not, ◌&&◌, T, eqb, ltb, List, [], sym, ap, refl, ◌∙◌, arith, ltb→lt, eq-eqb, ne_eqb, eqb-true}
 use borrow.Author.Tests.{eqb-false}
 use Rattle.model.specs.Bytes.{word, number, read_ring, places_ring, write_ring}
 use Rattle.model.specs.Machine.{memory_size, page_size, Stack, stack, HighMarks, State, pushed, popped, lowered}
-use Rattle.model.specs.Instruction.{Op, Comparison, Arithmetic, op_at, op_of, wide, size, return_mode, keep_mode, shape}
+use Rattle.model.specs.Instruction.{Op, op_at, op_of, wide, size, return_mode, keep_mode, shape}
 use Rattle.model.specs.Instruction.Op.{JCI, INC, POP, NIP, SWP, ROT, DUP, OVR, compare, JMP, JCN, JSR, STH, LDZ, STZ, LDR, STR, LDA, STA, DEI, DEO, compute, SFT}
 use Rattle.model.specs.Step.{offset, effect, effect_on, words, main_after, other_after, written, applied, exchanged, operated, execute, sent_by, ports_of}
 use Rattle.model.specs.Run.{Reply, reply, with_ports}
 use Rattle.model.specs.Run.Answer.{WentOn, Broke}
-use Rattle.model.proofs.Keys.{Beside, from_zero}
 use Rattle.model.proofs.Tests.{and_left, and_right, is_true, not-true}
 use Rattle.model.proofs.Changes.{stores_devices}
 use Rattle.model.proofs.Pauses.{no_ports, deo_ports}
@@ -18,29 +17,72 @@ use Rattle.operations.specs.After.{main_with, executed, byte_of}
 abbrev pub left : HighMarks → List ℕ → List ℕ → Stack → Stack → ℕ → State
 left high memory devices work ret pc = record { memory = memory; devices = devices; work = work; ret = ret; pc = pc; high = high }
 
--- The operation touches its main stack alone, and uses this memory, this device page and this next address: those of the
--- state, or none
-pub data Pure (s : State) (n : ℕ) : List ℕ → List ℕ → ℕ → Op → Type 0 where
-  inc : Pure s n [] [] 0 INC
-  pop : Pure s n [] [] 0 POP
-  nip : Pure s n [] [] 0 NIP
-  swp : Pure s n [] [] 0 SWP
-  rot : Pure s n [] [] 0 ROT
-  dup : Pure s n [] [] 0 DUP
-  ovr : Pure s n [] [] 0 OVR
-  comparing : {o : Comparison} → Pure s n [] [] 0 (compare o)
-  computing : {o : Arithmetic} → Pure s n [] [] 0 (compute o)
-  sft : Pure s n [] [] 0 SFT
-  ldz : Pure s n s.memory [] 0 LDZ
-  ldr : Pure s n s.memory [] n LDR
-  lda : Pure s n s.memory [] 0 LDA
-  dei : Pure s n [] s.devices 0 DEI
+-- the address after an instruction byte
+abbrev pub next : State → ℕ
+next s = (s.pc + 1) % 65536
 
--- The operation stores in memory, takes so many bytes besides the value, and uses this next address
-pub data Stores (n : ℕ) : ℕ → ℕ → Op → Type 0 where
-  stz : Stores n 1 0 STZ
-  str : Stores n 1 n STR
-  sta : Stores n 2 0 STA
+-- the operation touches its main stack alone
+abbrev pub pure : Op → Bool
+pure INC = true
+pure POP = true
+pure NIP = true
+pure SWP = true
+pure ROT = true
+pure DUP = true
+pure OVR = true
+pure (compare o) = true
+pure LDZ = true
+pure LDR = true
+pure LDA = true
+pure DEI = true
+pure (compute o) = true
+pure SFT = true
+pure o = false
+
+-- the operation stores in memory
+abbrev pub stores : Op → Bool
+stores STZ = true
+stores STR = true
+stores STA = true
+stores o = false
+
+-- what such operations use of the state besides their main stack: the memory, the device page and the next address, or none
+abbrev pub memory_for : Op → State → List ℕ
+memory_for LDZ s = s.memory
+memory_for LDR s = s.memory
+memory_for LDA s = s.memory
+memory_for o s = []
+
+abbrev pub devices_for : Op → State → List ℕ
+devices_for DEI s = s.devices
+devices_for o s = []
+
+abbrev pub next_for : Op → State → ℕ
+next_for LDR s = next s
+next_for STR s = next s
+next_for o s = 0
+
+-- the bytes of the place where such an operation stores
+abbrev pub place_bytes : Op → ℕ
+place_bytes STA = 2
+place_bytes o = 1
+
+-- the main stack, the memory and the main stack's pointer afterwards
+abbrev pub main_left : Op → Bool → Bool → State → Stack
+main_left o w k s = main_with (memory_for o s) (devices_for o s) (next_for o s) o w k s.work
+
+abbrev pub memory_left : Op → Bool → State → List ℕ
+memory_left o w s = written (effect_on [] [] (next_for o s) 0 o w s.work) (size w) s.memory
+
+abbrev pub pointer_left : Op → Bool → Bool → State → ℕ
+pointer_left o w k s = lowered k (cond w (2 + place_bytes o) (1 + place_bytes o)) s.work.pointer
+
+-- the state after an operation that touches its main stack alone, and after one that stores in memory
+abbrev pub with_main : State → Stack → State
+with_main s t = left s.high s.memory s.devices t s.ret (next s)
+
+abbrev pub with_memory : State → List ℕ → ℕ → State
+with_memory s m q = left s.high m s.devices (stack s.work.bytes q) s.ret (next s)
 
 -- opens the definition of an operation on the state
 unfoldable opened : Unit {0}
@@ -53,61 +95,61 @@ unfolding size
 by_size f true k p h = h
 by_size f false k p h = h
 
--- n is the address after the instruction byte, q the pointer of the main stack afterwards
-module _ (w k : Bool) (s : State) {n : ℕ} (hn : n ≡ (s.pc + 1) % 65536) where
-  pub pure_is : {m d : List ℕ} {a : ℕ} {o : Op} {t : Stack} → Pure s n m d a o → t ≡ main_with m d a o w k s.work
-      → left s.high s.memory s.devices t s.ret n ≡ applied o w k s
+-- q is the pointer of the main stack afterwards
+module _ (w k : Bool) (s : State) where
+  pure_is : (o : Op) → T (pure o) → {t : Stack} → t ≡ main_left o w k s → with_main s t ≡ applied o w k s
   unfolding opened
-  pure_is inc g = rw (g, hn)
-  pure_is pop g = rw (g, hn)
-  pure_is nip g = rw (g, hn)
-  pure_is swp g = rw (g, hn)
-  pure_is rot g = rw (g, hn)
-  pure_is dup g = rw (g, hn)
-  pure_is ovr g = rw (g, hn)
-  pure_is comparing g = rw (g, hn)
-  pure_is computing g = rw (g, hn)
-  pure_is sft g = rw (g, hn)
-  pure_is ldz g = rw (g, hn)
-  pure_is ldr g = rw (g, hn)
-  pure_is lda g = rw (g, hn)
-  pure_is dei g = rw (g, hn)
+  pure_is INC y g = rw g
+  pure_is POP y g = rw g
+  pure_is NIP y g = rw g
+  pure_is SWP y g = rw g
+  pure_is ROT y g = rw g
+  pure_is DUP y g = rw g
+  pure_is OVR y g = rw g
+  pure_is (compare o) y g = rw g
+  pure_is LDZ y g = rw g
+  pure_is LDR y g = rw g
+  pure_is LDA y g = rw g
+  pure_is DEI y g = rw g
+  pure_is (compute o) y g = rw g
+  pure_is SFT y g = rw g
+  pure_is o y g = absurd y
 
-  pub store_is : {b a : ℕ} {o : Op} {m : List ℕ} {q : ℕ} → Stores n b a o
-      → m ≡ written (effect_on [] [] a 0 o w s.work) (size w) s.memory → q ≡ lowered k (cond w (2 + b) (1 + b)) s.work.pointer
-      → left s.high m s.devices (stack s.work.bytes q) s.ret n ≡ applied o w k s
+  store_is : (o : Op) → T (stores o) → {m : List ℕ} {q : ℕ} → m ≡ memory_left o w s → q ≡ pointer_left o w k s
+      → with_memory s m q ≡ applied o w k s
   unfolding opened
-  store_is stz g h = rw (g, by_size (λ i. i + 1) w k s.work.pointer h, hn)
-  store_is str g h = rw (g, by_size (λ i. i + 1) w k s.work.pointer h, hn)
-  store_is sta g h = rw (g, by_size (λ i. i + 2) w k s.work.pointer h, hn)
+  store_is STZ y g h = rw (g, by_size (λ i. i + 1) w k s.work.pointer h)
+  store_is STR y g h = rw (g, by_size (λ i. i + 1) w k s.work.pointer h)
+  store_is STA y g h = rw (g, by_size (λ i. i + 2) w k s.work.pointer h)
+  store_is o y g h = absurd y
 
   pub deo_is : {d : List ℕ} {q : ℕ} → d ≡ written (effect_on [] [] 0 0 DEO w s.work) (size w) s.devices
       → q ≡ lowered k (cond w 3 2) s.work.pointer
-      → left s.high s.memory d (stack s.work.bytes q) s.ret n ≡ applied DEO w k s
+      → left s.high s.memory d (stack s.work.bytes q) s.ret (next s) ≡ applied DEO w k s
   unfolding opened
-  deo_is g h = rw (g, by_size (λ i. i + 1) w k s.work.pointer h, hn)
+  deo_is g h = rw (g, by_size (λ i. i + 1) w k s.work.pointer h)
 
-  pub jmp_is : {r q : ℕ} → r ≡ (effect_on [] [] n 0 JMP w s.work).target → q ≡ lowered k (cond w 2 1) s.work.pointer
+  pub jmp_is : {r q : ℕ} → r ≡ (effect_on [] [] (next s) 0 JMP w s.work).target → q ≡ lowered k (cond w 2 1) s.work.pointer
       → left s.high s.memory s.devices (stack s.work.bytes q) s.ret r ≡ applied JMP w k s
   unfolding opened
-  jmp_is g h = rw (g, by_size (λ i. i + 0) w k s.work.pointer h, hn)
+  jmp_is g h = rw (g, by_size (λ i. i + 0) w k s.work.pointer h)
 
-  pub jcn_is : {r q : ℕ} → r ≡ (effect_on [] [] n 0 JCN w s.work).target → q ≡ lowered k (cond w 3 2) s.work.pointer
+  pub jcn_is : {r q : ℕ} → r ≡ (effect_on [] [] (next s) 0 JCN w s.work).target → q ≡ lowered k (cond w 3 2) s.work.pointer
       → left s.high s.memory s.devices (stack s.work.bytes q) s.ret r ≡ applied JCN w k s
   unfolding opened
-  jcn_is g h = rw (g, by_size (λ i. 1 + (i + 0)) w k s.work.pointer h, hn)
+  jcn_is g h = rw (g, by_size (λ i. 1 + (i + 0)) w k s.work.pointer h)
 
-  pub jsr_is : {r q : ℕ} {u : Stack} → r ≡ (effect_on [] [] n 0 JMP w s.work).target → u ≡ pushed (word (size true) n) s.ret
+  pub jsr_is : {r q : ℕ} {u : Stack} → r ≡ (effect_on [] [] (next s) 0 JMP w s.work).target → u ≡ pushed (word (size true) (next s)) s.ret
       → q ≡ lowered k (cond w 2 1) s.work.pointer
       → left s.high s.memory s.devices (stack s.work.bytes q) u r ≡ applied JSR w k s
   unfolding opened
-  jsr_is g f h = rw (g, f, by_size (λ i. i + 0) w k s.work.pointer h, hn)
+  jsr_is g f h = rw (g, f, by_size (λ i. i + 0) w k s.work.pointer h)
 
   pub sth_is : {q : ℕ} {u : Stack} → u ≡ other_after STH w (effect_on [] [] 0 0 STH w s.work) s.ret
       → q ≡ lowered k (cond w 2 1) s.work.pointer
-      → left s.high s.memory s.devices (stack s.work.bytes q) u n ≡ applied STH w k s
+      → left s.high s.memory s.devices (stack s.work.bytes q) u (next s) ≡ applied STH w k s
   unfolding opened
-  sth_is f h = rw (f, by_size (λ i. i + 0) w k s.work.pointer h, hn)
+  sth_is f h = rw (f, by_size (λ i. i + 0) w k s.work.pointer h)
 
 -- ---- by the low seven bits and keep
 
@@ -131,33 +173,63 @@ bits_are key false = (omega arith, omega arith, omega arith)
 abbrev pub went : ℕ → ℕ → State → Reply
 went port sent t = with_ports (places_ring page_size port sent) (reply WentOn 1 0 t)
 
+-- what the low seven bits say: the operation, is it 16 bits wide, is the return stack its main stack
+abbrev pub op_key : ℕ → Op
+op_key N = op_at (N % 32) 0
+
+abbrev pub wide_key : ℕ → Bool
+wide_key N = eqb (N / 32 % 2) 1
+
+abbrev pub return_key : ℕ → Bool
+return_key N = eqb (N / 64 % 2) 1
+
+-- the state with its main stack in the working stack's place
+abbrev pub turned : ℕ → State → State
+turned N s = exchanged (return_key N) s
+
 -- an arm for key N, which writes these ports
 with_ports_lem : (N : ℕ) (k : Bool) (s : State) → 0 < N % 32 → N < 128 → {key : ℕ} {t : State} (ports : List ℕ) → key ≡ N
-    → t ≡ operated (op_at (N % 32) 0) (eqb (N / 32 % 2) 1) (eqb (N / 64 % 2) 1) k s → ports ≡ ports_of (byte_of N k) s
-    → with_ports ports (reply WentOn 1 0 t) ≡ executed (byte_of key k) s
-unfolding execute op_of wide return_mode
+    → t ≡ applied (op_key N) (wide_key N) k (turned N s) → ports ≡ ports_of (byte_of N k) s
+    → with_ports ports (reply WentOn 1 0 (turned N t)) ≡ executed (byte_of key k) s
+unfolding execute operated op_of wide return_mode
 with_ports_lem N k s h l ports e g p =
     let b = bits_are N k in
     let some : byte_of N k ≡ 0 → ⊥ = λ z. let low = b.0 in omega arith in
     rw (e, p, ne_eqb _ _ some, keep_is N k l, b.0, b.1, b.2, ← op_high (N % 32) (byte_of N k / 32) h, ← g)
 
--- the key of an arm that is neither an exception nor DEO
-abbrev pub quiet : ℕ → Bool
-quiet N = ltb 0 (N % 32) && not (eqb (N % 32) 0x17)
-
 byte_low : (N : ℕ) (k : Bool) → N < 128 → byte_of N k < 256
 byte_low N true l = omega arith
 byte_low N false l = omega arith
 
--- the arm for key N: it writes no port
-pub arm : (N : ℕ) (k : Bool) (s : State) → T (quiet N) → T (ltb N 128) → {key : ℕ} {t : State} → key ≡ N
-    → t ≡ operated (op_at (N % 32) 0) (eqb (N / 32 % 2) 1) (eqb (N / 64 % 2) 1) k s → went 0 0 t ≡ executed (byte_of key k) s
+-- the key of an arm that is neither an exception nor DEO
+abbrev pub quiet : ℕ → Bool
+quiet N = ltb 0 (N % 32) && (not (eqb (N % 32) 0x17) && ltb N 128)
+
+-- the arm for key N, by what its operation leaves: it writes no port
+pub arm : (N : ℕ) (k : Bool) (s : State) → T (quiet N) → {key : ℕ} {high : HighMarks} {m d : List ℕ} {t u : Stack} {p : ℕ} → key ≡ N
+    → left high m d t u p ≡ applied (op_key N) (wide_key N) k (turned N s)
+    → went 0 0 (turned N (left high m d t u p)) ≡ executed (byte_of key k) s
 unfolding places_ring
-arm N k s t u e g =
-    let l = ltb→lt N 128 u in
-    let other = eqb-false (N % 32) 0x17 (not-true (eqb (N % 32) 0x17) (and_right (ltb 0 (N % 32)) _ t)) in
+arm N k s y e g =
+    let rest = and_right (ltb 0 (N % 32)) _ y in
+    let l = ltb→lt N 128 (and_right (not (eqb (N % 32) 0x17)) _ rest) in
+    let other = eqb-false (N % 32) 0x17 (not-true (eqb (N % 32) 0x17) (and_left (not (eqb (N % 32) 0x17)) _ rest)) in
     let none : stores_devices (byte_of N k) ≡ false = rw ((bits_are N k).0, ne_eqb (N % 32) 0x17 other) in
-    with_ports_lem N k s (ltb→lt 0 (N % 32) (and_left (ltb 0 (N % 32)) _ t)) l [] e g (sym (no_ports (byte_of N k) s (byte_low N k l) none))
+    with_ports_lem N k s (ltb→lt 0 (N % 32) (and_left (ltb 0 (N % 32)) _ y)) l [] e g (sym (no_ports (byte_of N k) s (byte_low N k l) none))
+
+-- the arm for key N, whose operation touches its main stack alone
+pub pure_arm : (N : ℕ) (k : Bool) (s : State) → T (quiet N && pure (op_key N)) → {key : ℕ} {t : Stack} → key ≡ N
+    → t ≡ main_left (op_key N) (wide_key N) k (turned N s)
+    → went 0 0 (turned N (with_main (turned N s) t)) ≡ executed (byte_of key k) s
+pure_arm N k s y e g =
+    arm N k s (and_left (quiet N) _ y) e (pure_is (wide_key N) k (turned N s) (op_key N) (and_right (quiet N) _ y) g)
+
+-- the arm for key N, whose operation stores in memory
+pub store_arm : (N : ℕ) (k : Bool) (s : State) → T (quiet N && stores (op_key N)) → {key : ℕ} {m : List ℕ} {q : ℕ} → key ≡ N
+    → m ≡ memory_left (op_key N) (wide_key N) (turned N s) → q ≡ pointer_left (op_key N) (wide_key N) k (turned N s)
+    → went 0 0 (turned N (with_memory (turned N s) m q)) ≡ executed (byte_of key k) s
+store_arm N k s y e g h =
+    arm N k s (and_left (quiet N) _ y) e (store_is (wide_key N) k (turned N s) (op_key N) (and_right (quiet N) _ y) g h)
 
 size_is : (w : Bool) → cond w 2 1 ≡ size w
 unfolding size
@@ -165,27 +237,25 @@ size_is true = refl
 size_is false = refl
 
 -- the arm for key N, which is DEO
-pub deo_arm : (N : ℕ) (k : Bool) (s : State) → T (eqb (N % 32) 0x17) → T (ltb N 128) → {key port sent : ℕ} {t : State} → key ≡ N
-    → t ≡ operated (op_at (N % 32) 0) (eqb (N / 32 % 2) 1) (eqb (N / 64 % 2) 1) k s
-    → port ≡ (effect_on [] [] 0 0 DEO (eqb (N / 32 % 2) 1) (exchanged (eqb (N / 64 % 2) 1) s).work).place → sent ≡ cond (eqb (N / 32 % 2) 1) 2 1
-    → went port sent t ≡ executed (byte_of key k) s
+pub deo_arm : (N : ℕ) (k : Bool) (s : State) → T (eqb (N % 32) 0x17 && ltb N 128)
+    → {key port : ℕ} {high : HighMarks} {m d : List ℕ} {t u : Stack} {p : ℕ} → key ≡ N
+    → left high m d t u p ≡ applied (op_key N) (wide_key N) k (turned N s)
+    → port ≡ (effect_on [] [] 0 0 DEO (wide_key N) (turned N s).work).place
+    → went port (cond (wide_key N) 2 1) (turned N (left high m d t u p)) ≡ executed (byte_of key k) s
 unfolding wide return_mode
-deo_arm N k s t u {port = port} {sent = sent} e g p n =
-    let l = ltb→lt N 128 u in
+deo_arm N k s y {port = port} e g p =
+    let l = ltb→lt N 128 (and_right (eqb (N % 32) 0x17) _ y) in
     let b = bits_are N k in
-    let low = eqb-true (N % 32) 0x17 (is_true _ t) in
-    let ports : places_ring page_size port sent ≡ ports_of (byte_of N k) s = rw (deo_ports (byte_of N k) s (b.0 ∙ low), b.1, b.2, p, n, size_is (eqb (N / 32 % 2) 1)) in
-    with_ports_lem N k s (omega arith) l (places_ring page_size port sent) e g ports
+    let low = eqb-true (N % 32) 0x17 (is_true _ (and_left (eqb (N % 32) 0x17) _ y)) in
+    let ports : places_ring page_size port (cond (wide_key N) 2 1) ≡ ports_of (byte_of N k) s =
+    rw (deo_ports (byte_of N k) s (b.0 ∙ low), b.1, b.2, p, size_is (wide_key N)) in
+    with_ports_lem N k s (omega arith) l _ e g ports
 
--- the main stack is the working stack, or the return stack
-module _ (o : Op) (w k : Bool) (s : State) where
-  pub on-work : {t : State} → t ≡ applied o w k s → t ≡ operated o w false k s
-  unfolding operated
-  on-work g = g
-
-  pub on_return : {m d : List ℕ} {t u : Stack} {n : ℕ} → left s.high m d u t n ≡ applied o w k (exchanged true s) → left s.high m d t u n ≡ operated o w true k s
-  unfolding operated
-  on_return g = ap (exchanged true) g
+-- what an operation leaves whose main stack is the return stack
+pub on_return : (o : Op) (w k : Bool) (s : State) {m d : List ℕ} {t u : Stack} {n : ℕ} → left s.high m d u t n ≡ applied o w k (exchanged true s)
+    → left s.high m d t u n ≡ operated o w true k s
+unfolding operated
+on_return o w k s g = ap (exchanged true) g
 
 -- ---- the exceptions
 
@@ -198,10 +268,9 @@ unfolding execute ports_of sent_by places_ring op_of wide return_mode keep_mode 
 decoded = tt
 
 module _ (s : State) {key : ℕ} {k : Bool} where
-  pub brk_is : {n : ℕ} → key ≡ 0 → k ≡ false → n ≡ (s.pc + 1) % 65536
-      → reply Broke 1 0 (left s.high s.memory s.devices s.work s.ret n) ≡ executed (byte_of key k) s
+  pub brk_is : key ≡ 0 → k ≡ false → reply Broke 1 0 (with_main s s.work) ≡ executed (byte_of key k) s
   unfolding decoded
-  brk_is e f hn = rw (e, f, hn)
+  brk_is e f = rw (e, f)
 
   pub jci_is : {r q : ℕ} → key ≡ 32 → k ≡ false → r ≡ (effect_on [] [] ((s.pc + 3) % 65536) (inlined s true) JCI false s.work).target
       → q ≡ lowered false 1 s.work.pointer
@@ -214,23 +283,18 @@ module _ (s : State) {key : ℕ} {k : Bool} where
   unfolding decoded
   jmi_is e f hr = rw (e, f, hr)
 
-  pub jsi_is : {r n : ℕ} {t : Stack} → key ≡ 96 → k ≡ false → r ≡ offset ((s.pc + 3) % 65536) (inlined s true) → n ≡ (s.pc + 3) % 65536
-      → t ≡ pushed (word (size true) n) s.ret
+  pub jsi_is : {r : ℕ} {t : Stack} → key ≡ 96 → k ≡ false → r ≡ offset ((s.pc + 3) % 65536) (inlined s true)
+      → t ≡ pushed (word (size true) ((s.pc + 3) % 65536)) s.ret
       → went 0 0 (left s.high s.memory s.devices s.work t r) ≡ executed (byte_of key k) s
   unfolding decoded
-  jsi_is e f hr hn ht = rw (e, f, hr, ht, hn)
+  jsi_is e f hr ht = rw (e, f, hr, ht)
 
 -- LIT, in both widths and on either stack
-pub lit_is : (w r : Bool) (s : State) {key : ℕ} {k : Bool} {n : ℕ} {t : Stack} → key ≡ cond r 64 0 + cond w 32 0 → k ≡ true
-    → n ≡ (s.pc + cond w 3 2) % 65536 → t ≡ pushed (word (size w) (inlined s w)) (exchanged r s).work
-    → went 0 0 (exchanged r (left s.high s.memory s.devices t (exchanged r s).ret n)) ≡ executed (byte_of key k) s
+pub lit_is : (w r : Bool) (s : State) {key : ℕ} {k : Bool} {t : Stack} → key ≡ cond r 64 0 + cond w 32 0 → k ≡ true
+    → t ≡ pushed (word (size w) (inlined s w)) (exchanged r s).work
+    → went 0 0 (exchanged r (left s.high s.memory s.devices t (exchanged r s).ret ((s.pc + cond w 3 2) % 65536))) ≡ executed (byte_of key k) s
 unfolding decoded
-lit_is true true s e f hn ht = rw (e, f, hn, ht)
-lit_is true false s e f hn ht = rw (e, f, hn, ht)
-lit_is false true s e f hn ht = rw (e, f, hn, ht)
-lit_is false false s e f hn ht = rw (e, f, hn, ht)
-
--- ---- the last arm of a match from 0 on
-
-pub last_key : (n key : ℕ) → Beside key n → key < n + 1 → key ≡ n
-last_key n key h m = let e = from_zero n key h in omega arith
+lit_is true true s e f ht = rw (e, f, ht)
+lit_is true false s e f ht = rw (e, f, ht)
+lit_is false true s e f ht = rw (e, f, ht)
+lit_is false false s e f ht = rw (e, f, ht)

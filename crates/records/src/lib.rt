@@ -10,7 +10,7 @@ ghost use Rattle.records.specs.Blocks.{from_form, to_form, file_number, file_mov
 use buffers::fill;
 use model::{Form, Refusal};
 use moves::{each_record, some_record};
-use refusals::well_formed;
+use refusals::{FRAME_MOST, FRAME_SIZE, well_formed};
 
 // Document 01: "a record of exactly 64 bytes", "length L (0 to 62)".
 fn old_form() -> Form
@@ -24,8 +24,8 @@ fn new_form() -> Form
     ensures { result ≡ new_form }
 {
     Form {
-        size: 128,
-        most: 126,
+        size: FRAME_SIZE,
+        most: FRAME_MOST,
     }
 }
 
@@ -153,7 +153,7 @@ fn move_block(direction: Direction, block: &[u8], output: &mut [u8]) -> Result<u
 }
 
 // One block more of a file whose blocks so far are of whole records, and have this number: its records in the other form at the start of
-// the output, if it is not refused.
+// the output, if it is not refused. How many bytes they are, and no slice of them: the number goes with it, in one record.
 pub fn take_block(direction: Direction, number: u8, block: &[u8], output: &mut [u8]) -> BlockMoved
     requires { 2 * length block.now ≤ length output.old }
     ensures number_so_far { result.number ≡ earlier number (file_number direction block.now) }

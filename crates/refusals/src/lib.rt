@@ -18,9 +18,9 @@ const LOAD_MOST: usize = 65280;
 const LAST_DEVICE: u32 = 15;
 
 // C-16: "the record becomes 128 bytes with L from 0 to 126".
-const FRAME_SIZE: usize = 128;
+pub const FRAME_SIZE: usize = 128;
 
-const FRAME_MOST: usize = 126;
+pub const FRAME_MOST: usize = 126;
 
 // L and the node number stand before the data.
 const FRAME_HEAD: usize = 2;

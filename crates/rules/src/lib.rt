@@ -10,6 +10,9 @@ ghost use Rattle.model.specs.Admission.{admit_most, byte_at, allowed, depth_afte
 use model::START;
 use table::{Column, Table, WhichStack};
 
+// JMP in 16-bit return form without keep.
+pub const RETURN: u8 = 0x6C;
+
 // A bit for each operation, byte modulo 32: JMP (0C), JCN (0D), JSR (0E), STR (13), STA (15).
 const FORBIDDEN: u32 = 0x0028_7000;
 
@@ -17,7 +20,7 @@ const FORBIDDEN: u32 = 0x0028_7000;
 pub fn forbidden(byte: u8) -> bool
     ensures { result ≡ not (allowed byte) }
 {
-    if byte == 0x6C {
+    if byte == RETURN {
         return false;
     }
     (FORBIDDEN >> (byte % 32)) % 2 == 1

@@ -15,6 +15,10 @@ pub const PAGE_SIZE: usize = 256;
 
 pub const STACK_SIZE: usize = 256;
 
+// "The sheet record becomes 8 bytes: the old four", which are mark, working depth, return depth, the program byte, "the routine (two
+// bytes), two zeros".
+pub const SHEET_RECORD: usize = 8;
+
 // C-12: "The second address of a 16-bit LDZ or STZ is now modulo 256".
 pub const ZERO_PAGE: usize = 256;
 
@@ -37,8 +41,7 @@ pub fn size_of(wide: bool) -> u8
 pub fn two_bytes(high: u8, low: u8) -> u16
     ensures { result ≡ high * 256 + low }
 {
-    // by hand: `u16::from_be_bytes` leaves an exchange of the two bytes, an instruction more in each 16-bit read
-    u16::from(high) * 256 + u16::from(low)
+    u16::from_be_bytes([high, low])
 }
 
 // The number of one byte at `first`, or of two bytes, the other at `second`.
@@ -67,7 +70,8 @@ pub fn write(buffer: &mut [u8], first: u16, second: u16, wide: bool, value: u16)
     }
 }
 
-// The second address of a 16-bit access: the next one, modulo RING.
+// The second address of a 16-bit access: the next one, modulo RING. That a ring has 1 to 65,536 addresses no type of a const parameter says,
+// so that the clauses do, here and below.
 pub fn second<const RING: usize>(first: u16) -> u16
     requires { (0 < RING) × (RING ≤ 65536) }
     ensures { result ≡ (first + 1) % RING }
@@ -156,7 +160,8 @@ pub fn below(s: &Stack, p: u8, n: u8) -> u16
     read_in::<STACK_SIZE>(s, u16::from(p.wrapping_sub(n)), n == 2)
 }
 
-// The operands of an instruction, of a, b and c bytes, the one on top last; 0 bytes are no operand, and its number is 0.
+// The operands of an instruction, of a, b and c bytes, the one on top last; 0 bytes are no operand, and its number is 0: operands of any
+// number would take a loop in each instruction.
 pub fn operands(s: &Stack, p: u8, a: u8, b: u8, c: u8) -> [u16; 3]
     requires { (a ≤ 2) × (b ≤ 2) × (c ≤ 2) }
     ensures { result ≡ operands (a ∷ b ∷ c ∷ []) (stack s.now p) }

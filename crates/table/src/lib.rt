@@ -24,7 +24,8 @@ pub enum Column {
     Length,
 }
 
-// A caller that reads many entries makes the table once, and lends it.
+// A caller that reads many entries makes the table once, and lends it. Its rows stand one after the other, five numbers each, as `RowTable`
+// says of them (and `rows_of_four` reads them).
 #[derive(Drop)]
 pub struct Table {
     rows: [u8; 1280],

@@ -11,7 +11,8 @@ ghost use Rattle.text.specs.Lines.{decimal, refused_line, line, line_most};
 use arrayvec::ArrayVec;
 use model::{FrameEnd, Refused};
 
-// Each function here puts text behind what is in `out`.
+// Each function here puts text behind what is in `out`. That there is room for it stands in each contract, for what is put differs: no type
+// of a buffer says how much of it is free.
 
 pub fn put<const N: usize>(out: &mut ArrayVec<u8, N>, text: &[u8])
     requires { array_vec_len out.old + length text.now ≤ N }
@@ -40,6 +41,7 @@ pub fn put_decimal<const N: usize>(out: &mut ArrayVec<u8, N>, number: u8)
     put(out, &[b'0' + number / 100, tens, ones]);
 }
 
+// A number, and no `Refusal`: of a whole file `convert` has the number alone, worked out from those of its blocks, whatever they are.
 #[tactic(auto, unfolding(crate::specs::Lines::refused_line))]
 pub fn put_refused<const N: usize>(out: &mut ArrayVec<u8, N>, number: u8)
     requires { array_vec_len out.old + line_most ≤ N }

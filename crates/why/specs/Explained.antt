@@ -6,6 +6,7 @@ use Rattle.model.specs.Refusals.{refusal_number}
 use Rattle.model.specs.declared.Place.{Place}
 use Rattle.model.specs.declared.Reason.{Reason}
 use Rattle.model.specs.declared.Refusal.{Refusal}
+use Rattle.table.specs.declared.WhichStack.{WhichStack}
 use Rattle.text.specs.Lines.{refused_line, line_feed}
 use Rattle.words.specs.Words.{text, joined, digits, count, hex, name}
 
@@ -20,6 +21,11 @@ abbrev pub last_of : List ℕ → ℕ
 last_of program = (start + length program - 1) % memory_size
 
 -- ---- parts of sentences
+
+-- the word for a stack
+abbrev pub stack_name : WhichStack → List ℕ
+stack_name WhichStack.Working = text "working"
+stack_name WhichStack.Returning = text "return"
 
 -- " takes 1 byte of the working stack, which holds 0"
 unfoldable pub takes : ℕ → List ℕ → ℕ → List ℕ

@@ -5,10 +5,11 @@ ghost use Rattle.std.specs.Prelude.{◌≡◌, ◌++◌, ◌+◌, ◌-◌, ◌�
 ghost use Rattle.arrayvec.specs.ArrayVec.{array_vec_len};
 ghost use Rattle.model.specs.Machine.{start};
 ghost use Rattle.model.specs.Admission.{byte_at};
-ghost use Rattle.why.specs.Explained.{rest_from, last_of, takes, leaves, returns_with, in_routine, with_depths, other_way, is_cut, takes_below, goes_outside, ways_differ, returns_off_floor, returns_differ, part_most, sentence, sentence_most, place_of, because_line, explain_line, explain_most};
+ghost use Rattle.why.specs.Explained.{rest_from, last_of, stack_name, takes, leaves, returns_with, in_routine, with_depths, other_way, is_cut, takes_below, goes_outside, ways_differ, returns_off_floor, returns_differ, part_most, sentence, sentence_most, place_of, because_line, explain_line, explain_most};
 
 use arrayvec::ArrayVec;
 use model::{Place, Reason, Refusal, START};
+use table::WhichStack;
 use text::{put, put_refused};
 use words::{put_name, put_with_count, put_with_hex, put_with_number};
 
@@ -49,42 +50,57 @@ fn last_of(program: &[u8]) -> u16
 }
 
 // ---- parts of sentences. Each function from here on puts text behind what is in `out`.
-// Bytes are widened by `as`: with `u16::from` six of the proofs did not close. A stack is "working" or "return": 7 letters at most, for which
-// `part_most` has room.
+// Bytes are widened by `as`: with `u16::from` six of the proofs did not close.
+
+// The word for a stack; `part_most` has room for both.
+fn stack_name(stack: WhichStack) -> &'static [u8]
+    ensures word { result.now ≡ stack_name stack }
+    ensures short { length result.now ≤ 7 }
+{
+    match stack {
+        WhichStack::Working => b"working",
+        WhichStack::Returning => b"return",
+    }
+}
 
 // " takes 1 byte of the working stack, which holds 0".
-fn put_takes<const N: usize>(out: &mut ArrayVec<u8, N>, bytes: u8, stack: &[u8], holds: u8)
-    requires { (length stack.now ≤ 7) × (array_vec_len out.old + part_most ≤ N) }
+fn put_takes<const N: usize>(out: &mut ArrayVec<u8, N>, bytes: u8, stack: WhichStack, holds: u8)
+    requires { array_vec_len out.old + part_most ≤ N }
     ensures len { array_vec_len out.new ≤ array_vec_len out.old + part_most }
-    ensures bytes { out.new.items ≡ out.old.items ++ takes bytes stack.now holds }
+    ensures bytes { out.new.items ≡ out.old.items ++ takes bytes (stack_name stack) holds }
 {
     put_with_count(out, b" takes ", bytes as u16);
     put(out, b" of the ");
-    put(out, stack);
+    put(out, stack_name(stack));
     put_with_number(out, b" stack, which holds ", holds as u16);
 }
 
 // " leaves 256 bytes on the working stack, which has room for 255".
-fn put_leaves<const N: usize>(out: &mut ArrayVec<u8, N>, bytes: u16, stack: &[u8])
-    requires { (length stack.now ≤ 7) × (array_vec_len out.old + part_most ≤ N) }
+fn put_leaves<const N: usize>(out: &mut ArrayVec<u8, N>, bytes: u16, stack: WhichStack)
+    requires { array_vec_len out.old + part_most ≤ N }
     ensures len { array_vec_len out.new ≤ array_vec_len out.old + part_most }
-    ensures bytes { out.new.items ≡ out.old.items ++ leaves bytes stack.now }
+    ensures bytes { out.new.items ≡ out.old.items ++ leaves bytes (stack_name stack) }
 {
     put_with_count(out, b" leaves ", bytes);
     put(out, b" on the ");
-    put(out, stack);
+    put(out, stack_name(stack));
     put(out, b" stack, which has room for 255");
 }
 
 // " returns from routine 0104 with return depth 3".
-fn put_returns<const N: usize>(out: &mut ArrayVec<u8, N>, routine: u16, stack: &[u8], depth: u8)
-    requires { (length stack.now ≤ 7) × (array_vec_len out.old + part_most ≤ N) }
+fn put_returns<const N: usize>(
+    out: &mut ArrayVec<u8, N>,
+    routine: u16,
+    stack: WhichStack,
+    depth: u8,
+)
+    requires { array_vec_len out.old + part_most ≤ N }
     ensures len { array_vec_len out.new ≤ array_vec_len out.old + part_most }
-    ensures bytes { out.new.items ≡ out.old.items ++ returns_with routine stack.now depth }
+    ensures bytes { out.new.items ≡ out.old.items ++ returns_with routine (stack_name stack) depth }
 {
     put_with_hex(out, b" returns from routine ", routine);
     put(out, b" with ");
-    put(out, stack);
+    put(out, stack_name(stack));
     put_with_number(out, b" depth ", depth as u16);
 }
 
@@ -149,7 +165,7 @@ fn put_takes_below<const N: usize>(
     ensures len { array_vec_len out.new ≤ array_vec_len out.old + sentence_most }
     ensures bytes { out.new.items ≡ out.old.items ++ takes_below bytes holds floor routine }
 {
-    put_takes(out, bytes, b"return", holds);
+    put_takes(out, bytes, WhichStack::Returning, holds);
     put_with_number(out, b", and ", floor as u16);
     put_with_hex(out, b" of them belong to the callers of routine ", routine);
 }
@@ -182,7 +198,7 @@ fn put_off_floor<const N: usize>(out: &mut ArrayVec<u8, N>, place: Place, entry:
     ensures len { array_vec_len out.new ≤ array_vec_len out.old + sentence_most }
     ensures bytes { out.new.items ≡ out.old.items ++ returns_off_floor place entry }
 {
-    put_returns(out, place.routine, b"return", place.ret);
+    put_returns(out, place.routine, WhichStack::Returning, place.ret);
     put_with_number(out, b", and it was entered with ", entry.ret as u16);
 }
 
@@ -192,7 +208,7 @@ fn put_returns_differ<const N: usize>(out: &mut ArrayVec<u8, N>, place: Place, o
     ensures len { array_vec_len out.new ≤ array_vec_len out.old + sentence_most }
     ensures bytes { out.new.items ≡ out.old.items ++ returns_differ place other }
 {
-    put_returns(out, place.routine, b"working", place.work);
+    put_returns(out, place.routine, WhichStack::Working, place.work);
     put_with_hex(out, b", and the JMP2r at ", other.at);
     put_with_number(out, b" with ", other.work as u16);
 }
@@ -207,11 +223,11 @@ fn put_sentence<const N: usize>(out: &mut ArrayVec<u8, N>, program: &[u8], reaso
     match reason {
         Reason::Cut(p, n) => put_cut(out, n, rest_from(program, p.at)),
         Reason::Forbidden(_) => put(out, b" is not allowed in a filter"),
-        Reason::FewWorking(p, n) => put_takes(out, n, b"working", p.work),
-        Reason::FewReturn(p, n) => put_takes(out, n, b"return", p.ret),
+        Reason::FewWorking(p, n) => put_takes(out, n, WhichStack::Working, p.work),
+        Reason::FewReturn(p, n) => put_takes(out, n, WhichStack::Returning, p.ret),
         Reason::BelowFloor(p, n, entry) => { put_takes_below(out, n, p.ret, entry.ret, p.routine) }
-        Reason::ManyWorking(_, n) => put_leaves(out, n, b"working"),
-        Reason::ManyReturn(_, n) => put_leaves(out, n, b"return"),
+        Reason::ManyWorking(_, n) => put_leaves(out, n, WhichStack::Working),
+        Reason::ManyReturn(_, n) => put_leaves(out, n, WhichStack::Returning),
         Reason::Outside(_, next) => put_outside(out, next.at, last_of(program)),
         Reason::WaysDiffer(_, next, other) => put_ways_differ(out, next, other),
         Reason::ReturnIn0100(_) => { put(out, b" returns in routine 0100, which was not called") }

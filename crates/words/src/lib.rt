@@ -30,7 +30,8 @@ fn put_number<const N: usize>(out: &mut ArrayVec<u8, N>, value: u16)
     put(out, &[hundreds, tens, ones]);
 }
 
-// Words, then a number.
+// Words, then a number. No generic function does this for numbers, counts and addresses: each has a room and a definition of its own,
+// which such a function would have to be passed.
 pub fn put_with_number<const N: usize>(out: &mut ArrayVec<u8, N>, words: &[u8], value: u16)
     requires { array_vec_len out.old + length words.now + 6 ≤ N }
     ensures len { array_vec_len out.new ≤ array_vec_len out.old + length words.now + 6 }
@@ -99,7 +100,8 @@ pub fn put_with_hex<const N: usize>(out: &mut ArrayVec<u8, N>, words: &[u8], add
     put_hex(out, address);
 }
 
-// ---- names of instructions
+// ---- names of instructions. They stand in one text, name k at 4 * k, as the definitions have them (`letters`); arrays of names are no
+// plainer, with each of the forty in quotes.
 
 // By the high three bits of a byte whose low five are 0.
 const EXCEPTIONS: [u8; 31] = *b"BRK JCI JMI JSI LIT LIT LIT LIT";

@@ -10,13 +10,11 @@ ghost use Rattle.worklist.specs.Worklist.{routine_at, with_mark, Agrees, Led, Ma
 
 use arrayvec::ArrayVec;
 use model::START;
+pub use rules::RETURN;
 use rules::jump_target;
+pub use stack::SHEET_RECORD;
 use stack::two_bytes;
 use std::marker::Model;
-
-// "The sheet record becomes 8 bytes: the old four", which are mark, working depth, return depth, the program byte, "the routine (two
-// bytes), two zeros".
-pub const SHEET_RECORD: usize = 8;
 
 const BRK: u8 = 0x00;
 
@@ -25,9 +23,6 @@ const JCI: u8 = 0x20;
 const JMI: u8 = 0x40;
 
 pub const JSI: u8 = 0x60;
-
-// JMP in 16-bit return form without keep.
-pub const RETURN: u8 = 0x6C;
 
 // What `Routines` has for a routine whose first return stands at place 0 of the program: more than the number of any place in the queue.
 const RETURNED: u16 = 4097;
@@ -63,7 +58,7 @@ const PLACES: usize = 4096;
 type Places = [u16; PLACES];
 
 // A rule that fails, the place of the program where it fails, and the place of a return of which it speaks too, or 0. They are one number,
-// as the length of the queue is, so that the loop of the visits has one register for either.
+// of which the edits `rules_exchanged` and `places_exchanged` speak; with three fields an admission takes a tenth more instructions.
 #[derive(Drop)]
 pub struct Fault(usize);
 
@@ -84,6 +79,7 @@ impl Fault {
         Fault(rule as usize + RULES * places)
     }
 
+    // From its number, by hand: no cast leads from a number to an enum.
     pub fn rule(&self) -> Rule
         ensures { result ≡ self.now.rule }
     {
@@ -117,21 +113,28 @@ impl Fault {
     }
 }
 
-// ---- the sheet
+// ---- the sheet. That a record lies in it stands in each contract: no type has the length of what is lent.
 
-// The record of place i becomes marked with these depths and this routine.
-// The routine's bytes are made by hand, here, in `routine_of` and in `agrees`: with `to_be_bytes` and `from_be_bytes` an admission takes up
-// to 11 % more instructions.
-pub fn mark(sheet: &mut [u8], i: usize, work: u8, ret: u8, routine: u16)
+// What the record of a marked address has: the depths there, and the routine.
+#[derive(Clone, Copy)]
+pub struct Record {
+    pub work: u8,
+    pub ret: u8,
+    pub routine: u16,
+}
+
+// The record of place i becomes marked, with these.
+pub fn mark(sheet: &mut [u8], i: usize, r: Record)
     requires { sheet_record * i + 5 < length sheet.old }
-    ensures { sheet.new ≡ with_mark sheet.old i work ret routine }
+    ensures { sheet.new ≡ with_mark sheet.old i r.work r.ret r.routine }
 {
     let place = SHEET_RECORD * i;
     sheet[place] = 1;
-    sheet[place + 1] = work;
-    sheet[place + 2] = ret;
-    sheet[place + 4] = (routine / 256) as u8;
-    sheet[place + 5] = (routine % 256) as u8;
+    sheet[place + 1] = r.work;
+    sheet[place + 2] = r.ret;
+    let bytes = r.routine.to_be_bytes();
+    sheet[place + 4] = bytes[0];
+    sheet[place + 5] = bytes[1];
 }
 
 // The routine in the record of place i.
@@ -148,7 +151,7 @@ pub fn routine_of(sheet: &[u8], i: usize) -> u16
 // `known` has, at a routine's place in the program, the number, from 1, of the place in the queue with its last call that was visited, or 0,
 // if there is none; once a return of it was visited, RETURNED and the place of the first one. `before` has, for a place of the queue with a
 // call, the number of the place with the call before it, as `known` has the last. Places of the program count the one, places of the queue
-// the other, so they are no array of pairs.
+// the other, so they are no array of pairs; and numbers, for an enum of 16 bits with its kind takes twice the room on the stack.
 #[derive(Drop)]
 pub struct Routines {
     known: Places,
@@ -186,7 +189,12 @@ impl<'a> Worklist<'a> {
         ensures same { (result.sheet.ghost_name ≡ sheet.entry.ghost_name) × (result.program.now ≡ program.now) }
         ensures first { (result.sheet.now ≡ with_mark sheet.old 0 0 0 start) × (result.queue.items ≡ 0 ∷ []) }
     {
-        mark(sheet, 0, 0, 0, START);
+        let first = Record {
+            work: 0,
+            ret: 0,
+            routine: START,
+        };
+        mark(sheet, 0, first);
         let mut queue = ArrayVec::new();
         queue.push(0);
         Worklist {
@@ -228,45 +236,46 @@ impl<'a> Worklist<'a> {
     }
 
     // The record of place i has these depths and this routine.
-    fn agrees(&self, i: usize, work: u8, ret: u8, routine: u16) -> bool
+    fn agrees(&self, i: usize, r: Record) -> bool
         requires { sheet_record * i + 5 < length self.now.sheet.now }
-        ensures { Agrees self.now.sheet.now i work ret routine result }
+        ensures { Agrees self.now.sheet.now i r.work r.ret r.routine result }
     {
         let sheet = &*self.sheet;
         let place = SHEET_RECORD * i;
-        sheet[place + 1] == work
-            && sheet[place + 2] == ret
-            && sheet[place + 4] == (routine / 256) as u8
-            && sheet[place + 5] == (routine % 256) as u8
+        let bytes = r.routine.to_be_bytes();
+        sheet[place + 1] == r.work
+            && sheet[place + 2] == r.ret
+            && sheet[place + 4] == bytes[0]
+            && sheet[place + 5] == bytes[1]
     }
 
     // Place i of the program is one where it goes on, with these depths and in this routine: it is marked and put into the queue, unless it
     // is marked.
-    fn reach_place(&mut self, i: usize, work: u8, ret: u8, routine: u16) -> bool
-        requires { IsListed self.old × Led self.old.program.now (start + i) work ret routine
-            × Roots self.old.program.now self.old.sheet.now (start + i) ret routine }
+    fn reach_place(&mut self, i: usize, r: Record) -> bool
+        requires { IsListed self.old × Led self.old.program.now (start + i) r.work r.ret r.routine
+            × Roots self.old.program.now self.old.sheet.now (start + i) r.ret r.routine }
         ensures same { Same self.old self.new }
-        ensures marked { Marked self.old self.new (start + i) work ret routine result }
+        ensures marked { Marked self.old self.new (start + i) r.work r.ret r.routine result }
     {
         if self.program.len() <= i {
             return false;
         }
         if self.sheet[SHEET_RECORD * i] == 0 {
-            mark(self.sheet, i, work, ret, routine);
+            mark(self.sheet, i, r);
             self.queue.push(i as u16);
             return true;
         }
-        self.agrees(i, work, ret, routine)
+        self.agrees(i, r)
     }
 
     // The same of an address.
-    fn reach(&mut self, at: u16, work: u8, ret: u8, routine: u16) -> bool
-        requires { IsListed self.old × Led self.old.program.now at work ret routine
-            × Roots self.old.program.now self.old.sheet.now at ret routine }
+    fn reach(&mut self, at: u16, r: Record) -> bool
+        requires { IsListed self.old × Led self.old.program.now at r.work r.ret r.routine
+            × Roots self.old.program.now self.old.sheet.now at r.ret r.routine }
         ensures same { Same self.old self.new }
-        ensures marked { Marked self.old self.new at work ret routine result }
+        ensures marked { Marked self.old self.new at r.work r.ret r.routine result }
     {
-        START <= at && self.reach_place(usize::from(at - START), work, ret, routine)
+        START <= at && self.reach_place(usize::from(at - START), r)
     }
 
     // "The address after the call" at place i: its routine has a return at place `from`, with this working depth.
@@ -279,7 +288,7 @@ impl<'a> Worklist<'a> {
     {
         let ret = self.sheet[SHEET_RECORD * i + 2];
         let routine = self.routine(i);
-        if !self.reach_place(i + 3, work, ret, routine) {
+        if !self.reach_place(i + 3, Record { work, ret, routine }) {
             return Err(Fault::new(Rule::Back, i, from));
         }
         Ok(())
@@ -356,7 +365,8 @@ impl<'a> Worklist<'a> {
         ensures ends { VisitEnds self.old self.new head routines.new result }
     {
         let target = jump_target(self.program, i);
-        if !self.reach(target, work, ret, target) {
+        let routine = target;
+        if !self.reach(target, Record { work, ret, routine }) {
             return Err(Fault::new(Rule::Target, i, 0));
         }
         let entry = usize::from(target - START);
@@ -373,17 +383,10 @@ impl<'a> Worklist<'a> {
 
     // "each address where it may go on (after it; for JMI its target; for JCI both)" from place i, with these depths and in this
     // routine. "BRK goes nowhere."
-    pub fn follow(
-        &mut self,
-        i: usize,
-        after: usize,
-        work: u8,
-        ret: u8,
-        routine: u16,
-    ) -> Result<(), Fault>
-        requires { IsListed self.old × Marks self.old.sheet.now (start + i) × Tested self.old.program.now self.old.sheet.now i work ret
+    pub fn follow(&mut self, i: usize, after: usize, r: Record) -> Result<(), Fault>
+        requires { IsListed self.old × Marks self.old.sheet.now (start + i) × Tested self.old.program.now self.old.sheet.now i r.work r.ret
             × Above self.old.program.now self.old.sheet.now i × (after ≡ i + length_of (get_or self.old.program.now i 0))
-            × (routine ≡ routine_at self.old.sheet.now i)
+            × (r.routine ≡ routine_at self.old.sheet.now i)
             × (get_or self.old.program.now i 0 ≡ 0x60 → ⊥) × (get_or self.old.program.now i 0 ≡ 0x6C → ⊥) }
         ensures same { Same self.old self.new }
         ensures ends { Ends self.old self.new (Obeyed self.old.program.now self.new.sheet.now (start + i)) result }
@@ -395,19 +398,19 @@ impl<'a> Worklist<'a> {
         }
         if byte == JMI {
             let target = jump_target(program, i);
-            if !self.reach(target, work, ret, routine) {
+            if !self.reach(target, r) {
                 return Err(Fault::new(Rule::Target, i, 0));
             }
             return Ok(());
         }
-        if !self.reach_place(after, work, ret, routine) {
+        if !self.reach_place(after, r) {
             return Err(Fault::new(Rule::After, i, 0));
         }
         if byte != JCI {
             return Ok(());
         }
         let target = jump_target(program, i);
-        if !self.reach(target, work, ret, routine) {
+        if !self.reach(target, r) {
             return Err(Fault::new(Rule::Target, i, 0));
         }
         Ok(())

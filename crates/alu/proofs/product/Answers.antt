@@ -22,6 +22,3 @@ loop-rest-preserved c =
       | then-rest-eq1 w ↦ (laws.turn 65536 _ _ _ _ (rw w.if-rest-eq1.true (omega arith)) ∙ c.loop-rest.invariant.0, omega arith, search rules, search rules)
       | else-rest-eq1 w ↦ (laws.turn 65536 _ _ _ _ (rw (laws.even _ w.if-rest-eq1.false) (omega arith)) ∙ c.loop-rest.invariant.0, omega arith, search rules, search rules)
     ]
-
-pub returns : goal.returns
-returns c = laws.last_turn _ _ _ c.loop-rest.invariant.1 c.loop-rest-test.false c.loop-rest.invariant.0

@@ -1,15 +1,8 @@
 -- `blocks::install` meets its contract. Assumes nothing.
 use mathlib.Core.Path.{sym, ap, ◌∙◌}
 use mathlib.Core.List.{◌++◌, append-nil}
-use Prim.Native.Nat.{◌*◌}
-use native.Mathlib.Omega.{arith}
-use lib.ListN.{length}
-use lib.Seq.{length-take-le}
 use Rattle.blocks.proofs.Installs as installs
 use Rattle.blocks.proofs.install.Goals as goal
-
-pub slice_bounds-install-end-2 : goal.slice_bounds-install-end-2
-slice_bounds-install-end-2 g c = sym (length-take-le (8 * length c.args.program.now) c.args.sheet.now (omega arith))
 
 pub returns-in-Ok-clause-line_put : goal.returns-in-Ok-clause-line_put
 returns-in-Ok-clause-line_put g c =

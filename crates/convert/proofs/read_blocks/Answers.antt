@@ -1,6 +1,5 @@
 -- `convert::read_blocks` meets its contract. Assumes nothing.
-use Rattle.std.proofs.Common.{arith, rules}
-use Rattle.input.proofs.Done.{was_done}
+use Rattle.std.proofs.Common.{rules}
 use Rattle.convert.proofs.Passing as passing
 use Rattle.convert.proofs.read_blocks.Goals as goal
 
@@ -15,5 +14,4 @@ returns-then-n-block g c = passing.came _ _ _ _ c.loop-turn.invariant.2 c.take_b
 
 pub loop-turn-preserved : goal.loop-turn-preserved
 loop-turn-preserved g c =
-    let filled = rw (was_done _ _ c.in_ok-n.ensures) at c.read_to_end.ensures in
-    (search rules, search rules, passing.came_full _ _ _ _ c.loop-turn.invariant.2 c.take_block-taken.ensures.number_so_far (omega (arith, filled.1.0, filled.1.1)))
+    (search rules, search rules, passing.came_full _ _ _ _ c.loop-turn.invariant.2 c.take_block-taken.ensures.number_so_far (search rules))

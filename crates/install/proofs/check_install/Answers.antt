@@ -12,10 +12,9 @@ returns-in_err-check_buffers c =
       lengths = rw p.1 tt;
     }
 
-pub returns : goal.returns
-returns c =
-    record {
-      number = λ m. installing.install-number _ _ c.admit.result c.admit.new.sheet c.admit.ensures _ (c.in_ok-check_buffers.ensures.number m);
-      sheet_left = installing.admit_sheet _ _ c.admit.result c.admit.new.sheet c.admit.ensures;
-      lengths = installing.on_ok _ c.in_ok-check_buffers.ensures.lengths;
-    }
+pub returns-clause-number : goal.returns-clause-number
+returns-clause-number c m =
+    installing.install-number _ _ c.admit.result c.admit.new.sheet c.admit.ensures _ (c.in_ok-check_buffers.ensures.number m)
+
+pub returns-clause-sheet_left : goal.returns-clause-sheet_left
+returns-clause-sheet_left c = installing.admit_sheet _ _ c.admit.result c.admit.new.sheet c.admit.ensures

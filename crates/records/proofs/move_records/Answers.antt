@@ -17,9 +17,6 @@ returns-then-some_record-2 c = calls.move_too_long _ _ _ _ (omega arith) c.some_
 pub returns-then-output-room : goal.returns-then-output-room
 returns-then-output-room c = calls.move_short _ _ _ _ (omega arith) c.some_record.result (c.some_record.ensures (broken c.args.from.most) (λ x r l h. search rules)) c.if-some_record.false c.some_record-2.result (c.some_record-2.ensures (too_long c.args.to.most) (λ x r l h. search rules)) c.if-some_record-2.false (omega (arith, c.requires.0)) c.requires.1 (omega arith)
 
-pub overflow_mul-result : goal.overflow_mul-result
-overflow_mul-result c = omega (arith, calls.move_fits c.args.from c.args.to c.args.file.now c.args.output.now c.requires.1 (omega arith))
-
 pub returns : goal.returns
 unfolding moved_file
 returns c = calls.move_written _ _ _ _ (omega arith) c.some_record.result (c.some_record.ensures (broken c.args.from.most) (λ x r l h. search rules)) c.if-some_record.false c.some_record-2.result (c.some_record-2.ensures (too_long c.args.to.most) (λ x r l h. search rules)) c.if-some_record-2.false (omega (arith, c.requires.0)) c.requires.1 (omega arith) _ (c.each_record.ensures (fitted c.args.to.size) (λ x p a l h q. search rules))
