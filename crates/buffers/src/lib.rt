@@ -38,14 +38,14 @@ pub fn sized<const N: usize>(bytes: &mut [u8]) -> &mut [u8; N]
     bytes.as_mut_array().unwrap()
 }
 
-// The program at the start of the part, and zeros after it.
+// The program at the start of the part, and zeros after it: in place and not by `clear`, for of a stored frame record the compiler makes a
+// few stores of them, so that the moves of records ask the host for no `memset`.
 pub fn fill(part: &mut [u8], program: &[u8])
     requires { length program.now ≤ length part.old }
     ensures { part.new ≡ program.now ++ zeros (length part.old - length program.now) }
 {
     place(part, program);
-    let n = program.len();
-    clear(&mut part[n..]);
+    part[program.len()..].fill(0);
 }
 
 // Load: "memory is zero but for the program at 0100 hexadecimal", and the loader "hands on the part of memory that

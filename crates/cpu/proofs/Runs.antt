@@ -16,7 +16,7 @@ use Rattle.execute.specs.Stepped.{of_stepped}
 use Rattle.execute.specs.declared.Stepped.{Stepped}
 use Rattle.execute.specs.declared.Sent.{Sent}
 use Rattle.cpu.specs.declared.End.{End}
-use Rattle.cpu.specs.Ended.{carried_out, raised_record, of_end}
+use Rattle.cpu.specs.Ended.{carried_out, raised_record, unspent, of_end, ended_by}
 
 -- ---- the byte from its low seven bits and bit 7
 
@@ -123,13 +123,19 @@ module _ (watch : Option ℕ) (budget n k : ℕ) (d : n ≡ suc k) (b : n ≤ bu
         let z : budget - suc k + 1 ≡ budget - k = omega arith in
         rw (d, run_paused watch k s (went_on (breaks s) (answers g)) (rw (ports_are g) f), raises s (state_of next) (states g), ← u, z)
 
-  pub ends : {m : Machine} {a : Stepped} → a ≡ Stepped.Broke m → of_stepped state_of a ≡ carried_out s → raised (state_of m) ≡ state_of (raised_record m)
-      → of_end budget state_of (End.Broke (raised_record m) k) ≡ more (budget - n) (run watch n s)
+  pub ends : ((m : Machine) → raised (state_of m) ≡ state_of (raised_record m))
+      → (a : Stepped) {m : Machine} → a ≡ Stepped.Broke m → of_stepped state_of a ≡ carried_out s
+      → of_end budget state_of (ended_by a k) ≡ more (budget - n) (run watch n s)
   unfolding carried_out
-  ends {m} e h u =
+  ends u a {m} e h =
       let g : of_stepped state_of (Stepped.Broke m) ≡ executed (fetched s) s = rw e at h in
       let z : budget - suc k + 1 ≡ budget - k = omega arith in
-      rw (d, run_broke watch k s (broke (breaks s) (answers g)), raises s (state_of m) (states g), ← u, z)
+      rw (e, d, run_broke watch k s (broke (breaks s) (answers g)), raises s (state_of m) (states g), ← u m, z)
+
+-- what is not spent at the end
+pub unspent_is : (a : Stepped) (n : ℕ) {budget : ℕ} → n ≤ budget → unspent (ended_by a n) ≤ budget
+unspent_is (Stepped.WentOn m sent) n h = omega arith
+unspent_is (Stepped.Broke m) n h = h
 
 pub spent : (watch : Option ℕ) (budget n : ℕ) (s : State) → n ≤ 0 → reply Spent budget 0 s ≡ more (budget - n) (run watch n s)
 unfolding run

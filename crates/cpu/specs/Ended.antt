@@ -1,4 +1,5 @@
--- One instruction apart from the high marks, the marks of a machine record, and what the end of a run stands for. Assumes nothing.
+-- One instruction apart from the high marks, the marks of a machine record, what the end of a run stands for, and which end an
+-- instruction's answer gives. Assumes nothing.
 use Rattle.std.specs.Prelude.{ℕ, ◌-◌, []}
 use Rattle.model.specs.Machine.{State, state, registers}
 use Rattle.model.specs.Step.{fetched, raised}
@@ -6,6 +7,7 @@ use Rattle.model.specs.Run.{Reply, reply}
 use Rattle.model.specs.Run.Answer.{Broke, Spent, Paused}
 use Rattle.model.specs.declared.Machine.{Machine}
 use Rattle.operations.specs.After.{executed}
+use Rattle.execute.specs.declared.Stepped.{Stepped}
 use Rattle.cpu.specs.declared.End.{End}
 
 -- the reply of a step whose high marks are not raised yet: the byte fetched is carried out
@@ -28,3 +30,8 @@ abbrev pub of_end : ℕ → (Machine → State) → End → Reply
 of_end budget state_of (End.Broke m n) = reply Broke (budget - n) 0 (state_of m)
 of_end budget state_of (End.Spent m) = reply Spent budget 0 (state_of m)
 of_end budget state_of (End.Paused m n) = reply Paused (budget - n) 0 (state_of m)
+
+-- the end of a run whose last instruction answered this, with so much of the budget not spent
+abbrev pub ended_by : Stepped → ℕ → End
+ended_by (Stepped.WentOn m sent) n = End.Spent (raised_record m)
+ended_by (Stepped.Broke m) n = End.Broke (raised_record m) n

@@ -9,7 +9,7 @@ ghost use Rattle.model.specs.Step.{step_ports};
 ghost use Rattle.model.specs.Run as model;
 ghost use Rattle.model.specs.Replies.{ports_in};
 ghost use Rattle.execute.specs.Stepped.{of_stepped};
-ghost use Rattle.cpu.specs.Ended.{carried_out, raised_record, unspent, of_end};
+ghost use Rattle.cpu.specs.Ended.{carried_out, raised_record, unspent, of_end, ended_by};
 
 use execute::{Sent, Stepped, execute};
 use model::{Machine, Ports};
@@ -103,6 +103,16 @@ fn pauses(watch: Option<u8>, sent: Sent) -> bool
     }
 }
 
+// The end of a run whose last instruction answered this.
+fn ended(reply: Stepped, left: u32) -> End
+    ensures { result ≡ ended_by reply left }
+{
+    match reply {
+        Stepped::WentOn(m, _) => End::Spent(raise(m)),
+        Stepped::Broke(m) => End::Broke(raise(m), left),
+    }
+}
+
 // "A run takes each step's answer apart and goes on only after Went on."
 pub fn run(
     m: Machine,
@@ -121,15 +131,14 @@ pub fn run(
     let mut left = budget;
     // counted by hand: `for left in (0..budget).rev()` says no more, and takes an instruction more a step
     while 0 < left {
-        match carry_out(machine, memory, devices, work, ret) {
-            Stepped::WentOn(next, sent) => {
-                if pauses(watch, sent) {
-                    return End::Paused(raise(next), left - 1);
-                }
-                machine = raise(next);
-            }
-            Stepped::Broke(next) => return End::Broke(raise(next), left - 1),
+        let reply = carry_out(machine, memory, devices, work, ret);
+        let Stepped::WentOn(next, sent) = reply else {
+            return ended(reply, left - 1);
+        };
+        if pauses(watch, sent) {
+            return End::Paused(raise(next), left - 1);
         }
+        machine = raise(next);
         left -= 1;
     }
     End::Spent(machine)

@@ -3,7 +3,7 @@
 
 ghost use Rattle.std.specs.Prelude.{◌≡◌, List, ℕ, Ok};
 ghost use Rattle.model.specs.Machine.{state};
-ghost use Rattle.model.specs.Refusals.{refusal_number};
+ghost use Rattle.model.specs.Run as run;
 ghost use Rattle.model.specs.declared.StepEnd.{StepEnd};
 ghost use Rattle.model.specs.Replies.{of_load, of_step, of_run_end, of_run, of_event, of_frame, of_admit, of_write};
 ghost use Rattle.creply.specs.Exported.{watch_of, refused_struct, done_struct, went_on_struct, wrote_struct, returned, exported, admit_returned, exported_admit, write_returned, exported_write};
@@ -88,12 +88,14 @@ pub struct Why {
     pub other: Place,
 }
 
-fn refused(r: Refused) -> Reply
-    ensures { result ≡ refused_struct (refusal_number r.refusal) r.machine }
+// A call on a machine that is refused with this number. Any number, as in `wrote` and `plain`: of a `Refusal` the functions below are.
+pub fn refused(number: u8, machine: Machine) -> Reply
+    ensures struct_of { result ≡ refused_struct number machine }
+    ensures call { (p q w t : List ℕ) → returned result p q w t ≡ exported (run.reply (run.Answer.Refused number) 0 0 (state p q w t machine)) }
 {
     Reply {
-        machine: r.machine,
-        number: u8::from(r.refusal),
+        machine,
+        number,
         answer: REFUSED,
         ..Reply::default()
     }
@@ -135,7 +137,7 @@ fn of_went_on(machine: Machine, ports: Ports) -> Reply
     }
 }
 
-fn wrote(length: usize, number: u8) -> Written
+pub fn wrote(length: usize, number: u8) -> Written
     ensures { result ≡ wrote_struct length number }
 {
     Written {
@@ -153,7 +155,7 @@ pub fn of_load(reply: Result<Machine, Refused>) -> Reply
 {
     match reply {
         Ok(m) => done(LOADED, m, 0, 0),
-        Err(r) => refused(r),
+        Err(r) => refused(u8::from(r.refusal), r.machine),
     }
 }
 
@@ -172,7 +174,7 @@ pub fn of_step(reply: Result<StepEnd, Refused>) -> Reply
 {
     match reply {
         Ok(end) => of_step_end(end),
-        Err(r) => refused(r),
+        Err(r) => refused(u8::from(r.refusal), r.machine),
     }
 }
 
@@ -192,7 +194,7 @@ pub fn of_run(reply: Result<RunEnd, Refused>) -> Reply
 {
     match reply {
         Ok(end) => of_run_end(end),
-        Err(r) => refused(r),
+        Err(r) => refused(u8::from(r.refusal), r.machine),
     }
 }
 
@@ -202,7 +204,7 @@ pub fn of_event(reply: Result<EventEnd, Refused>) -> Reply
     match reply {
         Ok(EventEnd::Ignored(m)) => done(IGNORED, m, 0, 0),
         Ok(EventEnd::Ran(end)) => of_run_end(end),
-        Err(r) => refused(r),
+        Err(r) => refused(u8::from(r.refusal), r.machine),
     }
 }
 
@@ -212,7 +214,7 @@ pub fn of_frame(reply: Result<FrameEnd, Refused>) -> Reply
     match reply {
         Ok(FrameEnd::Broke(m, steps, verdict)) => done(BROKE, m, steps, verdict),
         Ok(FrameEnd::Spent(m, steps)) => done(SPENT, m, steps, 0),
-        Err(r) => refused(r),
+        Err(r) => refused(u8::from(r.refusal), r.machine),
     }
 }
 
@@ -257,7 +259,7 @@ fn nowhere() -> Place
 }
 
 // No rule is told.
-fn plain(number: u8) -> Why
+pub fn plain(number: u8) -> Why
     ensures { result ≡ plain_struct number }
 {
     Why {

@@ -48,9 +48,12 @@ pub fn put_refused<const N: usize>(out: &mut ArrayVec<u8, N>, number: u8)
     ensures len { array_vec_len out.new ≤ array_vec_len out.old + line_most }
     ensures bytes { out.new.items ≡ out.old.items ++ refused_line number }
 {
-    put(out, b"refused ");
-    put_decimal(out, number);
-    put(out, b"\n");
+    // The line is put as one: what is in `out` is counted once.
+    let mut line: ArrayVec<u8, 12> = ArrayVec::new();
+    put(&mut line, b"refused ");
+    put_decimal(&mut line, number);
+    put(&mut line, b"\n");
+    put(out, line.as_slice());
 }
 
 #[tactic(auto, unfolding(crate::specs::Lines::line_of))]
