@@ -58,13 +58,14 @@ pub fn install<const N: usize>(
     }
 }
 
+// The record alone is taken out of a refusal: a copy of the whole would go through memory at each frame.
 fn record_of(reply: Result<FrameEnd, Refused>) -> Machine
     ensures { (state_of : Machine → State) → (of_frame state_of reply).state ≡ state_of result }
 {
     match reply {
         Ok(FrameEnd::Broke(m, _, _)) => m,
         Ok(FrameEnd::Spent(m, _)) => m,
-        Err(refused) => refused.machine,
+        Err(Refused { machine, .. }) => machine,
     }
 }
 

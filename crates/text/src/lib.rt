@@ -14,12 +14,15 @@ use model::{FrameEnd, Refused};
 // Each function here puts text behind what is in `out`. That there is room for it stands in each contract, for what is put differs: no type
 // of a buffer says how much of it is free.
 
+// A push has its room by its contract; `try_extend_from_slice` would look for it at each call.
 pub fn put<const N: usize>(out: &mut ArrayVec<u8, N>, text: &[u8])
     requires { array_vec_len out.old + length text.now ≤ N }
     ensures len { array_vec_len out.new ≡ array_vec_len out.old + length text.now }
     ensures bytes { out.new.items ≡ out.old.items ++ text.now }
 {
-    let _fits = out.try_extend_from_slice(text);
+    for byte in text {
+        out.push(*byte);
+    }
 }
 
 // Here and in `put_number` and `put_hex` the digits are taken by hand: the check alone finds that they are those of the definition. A library has
@@ -48,12 +51,9 @@ pub fn put_refused<const N: usize>(out: &mut ArrayVec<u8, N>, number: u8)
     ensures len { array_vec_len out.new ≤ array_vec_len out.old + line_most }
     ensures bytes { out.new.items ≡ out.old.items ++ refused_line number }
 {
-    // The line is put as one: what is in `out` is counted once.
-    let mut line: ArrayVec<u8, 12> = ArrayVec::new();
-    put(&mut line, b"refused ");
-    put_decimal(&mut line, number);
-    put(&mut line, b"\n");
-    put(out, line.as_slice());
+    put(out, b"refused ");
+    put_decimal(out, number);
+    put(out, b"\n");
 }
 
 #[tactic(auto, unfolding(crate::specs::Lines::line_of))]
@@ -66,6 +66,6 @@ pub fn put_line<const N: usize>(out: &mut ArrayVec<u8, N>, reply: Result<FrameEn
         Ok(FrameEnd::Broke(_, _, 0)) => put(out, b"drop\n"),
         Ok(FrameEnd::Broke(_, _, _)) => put(out, b"pass\n"),
         Ok(FrameEnd::Spent(_, _)) => put(out, b"spent\n"),
-        Err(refused) => put_refused(out, refused.refusal.into()),
+        Err(Refused { refusal, .. }) => put_refused(out, refusal.into()),
     }
 }
