@@ -407,6 +407,38 @@ fn no_function_calls_itself_or_the_host() {
     }
 }
 
+/// What a function comes to call, in any number of steps.
+fn reached(called: &BTreeMap<String, BTreeSet<String>>, function: &str) -> BTreeSet<String> {
+    let mut all = BTreeSet::new();
+    let mut left = vec![function.to_owned()];
+    while let Some(name) = left.pop() {
+        for next in called.get(&name).into_iter().flatten() {
+            if all.insert(next.clone()) {
+                left.push(next.clone());
+            }
+        }
+    }
+    all
+}
+
+/// `memset` "is called where a program is admitted, explained or loaded": no other call asks the host
+/// for it, so that one that is linked alone needs nothing.
+#[test]
+fn only_what_takes_a_program_calls_the_host() {
+    let called = all_called();
+    let row = of_the_archive(&page(), "calls out of step, run, event and frame");
+    assert!(row.starts_with("none"), "{row}");
+    for host in quoted(&row) {
+        let takes = declared(&(header() + &bench_header()));
+        let asks = takes
+            .into_iter()
+            .filter(|name| reached(&called, name).contains(&host));
+        let asks: Vec<String> = asks.collect();
+        let wanted = ["uxn_admit", "uxn_explain", "uxn_install", "uxn_load"];
+        assert_eq!(asks, wanted, "{host}");
+    }
+}
+
 /// The instructions that multiply, by the names that x86-64 with SSE2 has for them, and those that
 /// name a routine of a compiler for it, or a function which is not here to be looked at.
 fn multiplications(functions: &BTreeMap<String, Vec<Instruction>>) -> Vec<(&str, &str)> {
