@@ -4,9 +4,7 @@
 
 ghost use Rattle.convert.specs.Passes.{PassOf};
 
-use input::{
-    argument, has_arguments, open, or_say_failed, read_whole, say, say_refused, write_output, zeros,
-};
+use input::{argument, open, or_say_failed, read_whole, say, say_refused, write_output, zeros};
 use records::{Direction, take_block};
 use std::io::Read;
 
@@ -89,11 +87,8 @@ fn convert_file(rt: &HostRuntime, direction: Direction, path: &[u8]) -> Option<(
     Some(())
 }
 
-// The program, whose argument names the file; with another number of arguments, or `--help`, the usage is said.
-pub fn convert(rt: &HostRuntime, direction: Direction, usage: &[u8]) {
-    if !has_arguments(rt, 2, usage) {
-        return;
-    }
+// The program's argument names the file.
+pub fn convert(rt: &HostRuntime, direction: Direction) {
     let mut word = [0u8; 4096];
     if let Some(path) = argument(rt, 1, b"FILE", &mut word) {
         let _ = convert_file(rt, direction, path);

@@ -2,11 +2,14 @@
 #![tactic(auto)]
 
 use convert::convert;
+use input::has_arguments;
 use records::Direction;
 
 const USAGE: &[u8] =
     b"usage: narrow FILE > OLD\nWrites the 128-byte frame records of FILE as 64-byte records, each cut to its first 64 bytes.\nFILE is read twice; nothing is written if it is refused, and standard error then says\nrefused and the number: 15 FILE is not of whole 128-byte records; 8 a data length is above 126,\nor a byte past the data is not 0; 16 a data length is above 62.\nStandard error is empty if all went well.\n";
 
 fn main(rt: HostRuntime) {
-    convert(&rt, Direction::Narrow, USAGE);
+    if has_arguments(&rt, 2, USAGE) {
+        convert(&rt, Direction::Narrow);
+    }
 }
