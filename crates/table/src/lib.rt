@@ -26,9 +26,9 @@ pub enum Column {
 
 // A caller that reads many entries makes the table once, and lends it. Its rows stand one after the other, five numbers each, as `RowTable`
 // says of them (and `rows_of_four` reads them).
-#[derive(Drop)]
+#[derive(Clone, Copy)]
 pub struct Table {
-    rows: [u8; 1280],
+    pub rows: [u8; 1280],
     ghost right: { RowTable rows },
 }
 

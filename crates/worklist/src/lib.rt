@@ -9,7 +9,7 @@ ghost use Rattle.model.specs.Admission.{admit_most, byte_at, target_of, sheet_re
 ghost use Rattle.worklist.specs.Worklist.{routine_at, with_mark, Agrees, Led, Marks, Passing, Obeyed, Roots, Tested, Above, Back, AllBack, Left, Chain, Same, IsListed, Marked, Ends, Visiting, VisitEnds};
 
 use arrayvec::ArrayVec;
-use model::START;
+pub use model::START;
 pub use rules::RETURN;
 use rules::jump_target;
 pub use stack::SHEET_RECORD;
@@ -49,25 +49,34 @@ pub enum Rule {
 }
 
 // There is room for 16 rules, and for two places of a program.
-const RULES: usize = 16;
+pub const RULES: usize = 16;
 
 // A program "above 4,096 bytes" is not admitted.
-const PLACES: usize = 4096;
+pub const PLACES: usize = 4096;
 
 // A number for each place of a program, or for each place of the queue, which has some of them.
-type Places = [u16; PLACES];
+pub type Places = [u16; PLACES];
 
 // A rule that fails, the place of the program where it fails, and the place of a return of which it speaks too, or 0. They are one number,
 // of which the edits `rules_exchanged` and `places_exchanged` speak; with three fields an admission takes a tenth more instructions.
-#[derive(Drop)]
+#[derive(Clone, Copy)]
 pub struct Fault(usize);
 
 impl Model for Fault {
+    ghost use Rattle.std.specs.Prelude.{◌%◌, ◌<◌};
     ghost use Rattle.worklist.specs.Worklist.{Failing, failing_of};
+    ghost use Rattle.worklist.specs.Numbers.{number_of, number_is};
 
     ghost Value = { Failing };
 
     ghost view = { λ fault. failing_of fault.0 };
+
+    // There are twelve rules.
+    ghost invariant = { λ fault. fault.0 % 16 < 12 };
+
+    ghost inverse = { λ f. record { 0 = number_of f } };
+
+    ghost inverse_ok = { λ fault h i. record { 0 = number_is fault.0 h i } };
 }
 
 impl Fault {
@@ -152,10 +161,10 @@ pub fn routine_of(sheet: &[u8], i: usize) -> u16
 // if there is none; once a return of it was visited, RETURNED and the place of the first one. `before` has, for a place of the queue with a
 // call, the number of the place with the call before it, as `known` has the last. Places of the program count the one, places of the queue
 // the other, so they are no array of pairs; and numbers, for an enum of 16 bits with its kind takes twice the room on the stack.
-#[derive(Drop)]
+#[derive(Clone, Copy)]
 pub struct Routines {
-    known: Places,
-    before: Places,
+    pub known: Places,
+    pub before: Places,
 }
 
 impl Routines {

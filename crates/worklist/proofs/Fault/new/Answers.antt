@@ -9,7 +9,7 @@ use Rattle.worklist.specs.Worklist.{rule_of, rule_in, place_in, other_in}
 use Rattle.worklist.proofs.Fault.new.Goals as goal
 
 -- the three parts of a number
-module _ (n i j : ℕ) (low : n < 16) (small : i < 4096) where
+module _ (n i j : ℕ) (low : n < 12) (small : i < 4096) where
   first : (n + 16 * (i + 4096 * j)) % 16 ≡ n
   first = omega arith
 
@@ -23,7 +23,7 @@ module _ (n i j : ℕ) (low : n < 16) (small : i < 4096) where
   third = rw rest (omega arith)
 
 -- the number of a rule
-numbered : (rule : Rule) → (tag_of the_type rule < 16) × (rule_of (tag_of the_type rule) ≡ rule)
+numbered : (rule : Rule) → (tag_of the_type rule < 12) × (rule_of (tag_of the_type rule) ≡ rule)
 numbered Rule.Forbidden = (omega arith, refl)
 numbered Rule.Cut = (omega arith, refl)
 numbered Rule.FewWorking = (omega arith, refl)
@@ -42,3 +42,8 @@ unfolding rule_in place_in other_in
 returns c =
     let n = numbered c.args.rule in
     rw (first _ _ _ n.0 c.requires.0, second _ _ _ n.0 c.requires.0, third _ _ _ n.0 c.requires.0, n.1) refl
+
+pub invariant_of-result : goal.invariant_of-result
+invariant_of-result c =
+    let n = numbered c.args.rule in
+    rw (first _ _ _ n.0 c.requires.0) n.0
