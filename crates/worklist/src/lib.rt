@@ -155,6 +155,14 @@ pub fn routine_of(sheet: &[u8], i: usize) -> u16
     two_bytes(sheet[place + 4], sheet[place + 5])
 }
 
+// The floor of a routine: the return depth in the record of its own address.
+pub fn floor_of(sheet: &[u8], routine: u16) -> u8
+    requires { (start ≤ routine) × (sheet_record * (routine - start) + 2 < length sheet.now) }
+    ensures { result ≡ get_or sheet.now (sheet_record * (routine - start) + 2) 0 }
+{
+    sheet[SHEET_RECORD * usize::from(routine - START) + 2]
+}
+
 // ---- what is known of routines
 
 // `known` has, at a routine's place in the program, the number, from 1, of the place in the queue with its last call that was visited, or 0,
@@ -236,12 +244,12 @@ impl<'a> Worklist<'a> {
         routine_of(self.sheet, i)
     }
 
-    // The floor of a routine: the return depth in the record of its own address.
+    // The floor of a routine.
     pub fn floor(&self, routine: u16) -> u8
         requires { (start ≤ routine) × (sheet_record * (routine - start) + 2 < length self.now.sheet.now) }
         ensures { result ≡ get_or self.now.sheet.now (sheet_record * (routine - start) + 2) 0 }
     {
-        self.sheet[SHEET_RECORD * usize::from(routine - START) + 2]
+        floor_of(self.sheet, routine)
     }
 
     // The record of place i has these depths and this routine.
