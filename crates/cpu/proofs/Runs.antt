@@ -123,14 +123,13 @@ module _ (watch : Option ℕ) (budget n k : ℕ) (d : n ≡ suc k) (b : n ≤ bu
         let z : budget - suc k + 1 ≡ budget - k = omega arith in
         rw (d, run_paused watch k s (went_on (breaks s) (answers g)) (rw (ports_are g) f), raises s (state_of next) (states g), ← u, z)
 
-  pub ends : ((m : Machine) → raised (state_of m) ≡ state_of (raised_record m))
-      → (a : Stepped) {m : Machine} → a ≡ Stepped.Broke m → of_stepped state_of a ≡ carried_out s
+  pub ends : (a : Stepped) {m : Machine} → a ≡ Stepped.Broke m → of_stepped state_of a ≡ carried_out s → raised (state_of m) ≡ state_of (raised_record m)
       → of_end budget state_of (ended_by a k) ≡ more (budget - n) (run watch n s)
   unfolding carried_out
-  ends u a {m} e h =
+  ends a {m} e h u =
       let g : of_stepped state_of (Stepped.Broke m) ≡ executed (fetched s) s = rw e at h in
       let z : budget - suc k + 1 ≡ budget - k = omega arith in
-      rw (e, d, run_broke watch k s (broke (breaks s) (answers g)), raises s (state_of m) (states g), ← u m, z)
+      rw (e, d, run_broke watch k s (broke (breaks s) (answers g)), raises s (state_of m) (states g), ← u, z)
 
 -- what is not spent at the end
 pub unspent_is : (a : Stepped) (n : ℕ) {budget : ℕ} → n ≤ budget → unspent (ended_by a n) ≤ budget
